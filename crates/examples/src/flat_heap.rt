@@ -1,5 +1,5 @@
 //! A heap over words of your own, which looks at each address that it is given.
-use heap_library::CheckedHeap;
+use checked_heap::CheckedHeap;
 
 pub(crate) fn run(rt: &HostRuntime) -> anyhow::Result<()> {
     let mut memory = [0u64; 4096];

@@ -1,7 +1,7 @@
 -- What comes of words that are the program's command.
 use Rattle.std.specs.Prelude.{◌≡◌, ◌↔◌, ℕ, List, Some, IsSome, String}
 use Rattle.std.specs.declared.alloc.Global.{Global}
-use Rattle.heap_model.specs.declared.config.Config.{Config}
+use Rattle.machine_model.specs.declared.config.Config.{Config}
 use Rattle.heap_program.specs.declared.arguments.Command.TheVariants.{Run, Generate}
 use Rattle.heap_program.specs.declared.ended.Ended.{Ended}
 use Rattle.heap_program.specs.Command.{command_of}

@@ -2,7 +2,7 @@
 use Rattle.std.specs.Prelude.{ℕ, zero, suc, ◌+◌, ◌-◌, ◌*◌, ◌^◌, max, Bool, ◌&&◌, nat_eq, nat_le, List, [], ◌∷◌, ◌++◌, length, codes, if◌then◌else◌}
 use Rattle.heap_history.specs.declared.history.Mapping.{Mapping}
 use Rattle.heap_history.specs.Columns.{x_of}
-use Rattle.heap_lines.specs.Written.{rights_word}
+use Rattle.call_lines.specs.Written.{rights_word}
 use Rattle.heap_map.specs.Words.{hexadecimal, commas, quantity}
 use Rattle.heap_map.specs.Shapes.{text_at, rect, titled}
 use Rattle.heap_curves.specs.Addresses.{least_start, all_addresses}

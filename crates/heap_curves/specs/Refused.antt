@@ -1,7 +1,7 @@
 -- The calls that were refused, over a run.
 use Rattle.std.specs.Prelude.{ℕ, ◌+◌, ◌-◌, ◌*◌, ◌/◌, min, max, nat_eq, List, [], ◌∷◌, ◌++◌, length, codes, if◌then◌else◌}
 use Rattle.heap_history.specs.declared.history.RefusedCall.{RefusedCall}
-use Rattle.heap_lines.specs.Written.{refusal_word}
+use Rattle.call_lines.specs.Written.{refusal_word}
 use Rattle.heap_map.specs.Words.{commas}
 use Rattle.heap_map.specs.Shapes.{text_at, rect, titled}
 

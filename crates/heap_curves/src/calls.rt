@@ -5,7 +5,7 @@ ghost use Rattle.heap_curves.specs.Calls.{plain, short_words, down_text, grid_te
 use crate::upright::{are_upright, most_words, push_uprights};
 use heap_history::x_of;
 use heap_map::{Area, push_commas, push_rect, push_text};
-use heap_model::Bytes;
+use machine_model::Bytes;
 use std::alloc::{AllocError, Global};
 
 /// A letter that can stand in a document as it is; else a question mark.

@@ -3,8 +3,8 @@ ghost use Rattle.std.specs.Prelude.{◌≡◌, ◌<◌, ◌≤◌, ◌+◌, ◌^
 ghost use Rattle.heap_curves.specs.Lanes.{mapping_words, label_words, when_words, region_title, region_left, region_right, region_width, region_label_text, large_region_mark, region_text, is_drawn, lane_regions_text, lane_ground_text, lane_text, addresses_word, more_addresses_words, more_addresses_text, lanes_text, lanes_height};
 
 use crate::addresses::{NONE, all_addresses, least_start};
+use call_lines::push_rights;
 use heap_history::{Mapping, x_of};
-use heap_lines::push_rights;
 use heap_map::{Area, push_address, push_commas, push_counted, push_rect, push_text, push_titled};
 use std::alloc::{AllocError, Global};
 

@@ -2,8 +2,8 @@
 ghost use Rattle.std.specs.Prelude.{◌≡◌, ◌<◌, ◌≤◌, ◌+◌, ◌^◌, ◌++◌, OnOk, string_bytes};
 ghost use Rattle.heap_curves.specs.Refused.{refused_columns, refused_column, bar_call, bar_left, refused_bar_width, refused_bar_height, call_title, span_words, refused_of, calls_title, refused_bar_title, refused_column_text, refused_columns_text, refused_ground, refused_text, refused_height};
 
+use call_lines::refusal_word;
 use heap_history::RefusedCall;
-use heap_lines::refusal_word;
 use heap_map::{Area, push_commas, push_rect, push_text, push_titled};
 use std::alloc::{AllocError, Global};
 

@@ -5,7 +5,7 @@ ghost use Rattle.heap_curves.specs.Calls.{longest_from, longest_word, words_numb
 use crate::calls::{plain, push_grid};
 use heap_history::x_of;
 use heap_map::push_text;
-use heap_model::Bytes;
+use machine_model::Bytes;
 use std::alloc::{AllocError, Global};
 
 // The letters of the longest word of a line.

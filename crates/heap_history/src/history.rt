@@ -1,5 +1,5 @@
 // What a run did to its heap.
-use heap_model::{Bytes, Refusal, Region};
+use machine_model::{Bytes, Refusal, Region};
 use public_list::PublicList;
 
 /// How a stay ended.

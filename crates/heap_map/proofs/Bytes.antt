@@ -5,9 +5,9 @@ use Rattle.std.proofs.lemmas.List.Sums.{sum_by-cons}
 use Rattle.dlmalloc_chunks.specs.declared.extent.Extent.{Extent}
 use Rattle.dlmalloc_chunks.specs.declared.extent.Kind.{Kind}
 use Rattle.dlmalloc_chunks.specs.declared.extent.Kind.TheVariants.{Used, Free, Victim, Top, Record, Foot}
-use Rattle.heap_figures.specs.Figures.{is_part}
-use Rattle.heap_figures.specs.declared.counting.Part.{Part}
-use Rattle.heap_figures.specs.declared.counting.Part.TheVariants.{Used as InUse, Free as Unused, Overhead}
+use Rattle.run_figures.specs.Figures.{is_part}
+use Rattle.run_figures.specs.declared.counting.Part.{Part}
+use Rattle.run_figures.specs.declared.counting.Part.TheVariants.{Used as InUse, Free as Unused, Overhead}
 use Rattle.heap_map.specs.declared.classes.Class.{Class}
 use Rattle.heap_map.specs.Classes.{is_of_class, bytes_in}
 use Rattle.heap_map.specs.Totals.{total_of}

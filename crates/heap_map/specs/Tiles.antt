@@ -1,8 +1,8 @@
 -- The figures of a heap, as tiles in a row.
 use Rattle.std.specs.Prelude.{ℕ, ◌+◌, ◌-◌, ◌*◌, ◌/◌, List, ◌++◌, codes}
 use Rattle.dlmalloc_chunks.specs.declared.extent.Extent.{Extent}
-use Rattle.heap_figures.specs.Figures.{part_bytes, greatest_of}
-use Rattle.heap_figures.specs.declared.counting.Part.TheVariants.{Used, Free}
+use Rattle.run_figures.specs.Figures.{part_bytes, greatest_of}
+use Rattle.run_figures.specs.declared.counting.Part.TheVariants.{Used, Free}
 use Rattle.heap_map.specs.Words.{commas, quantity, percent, about}
 use Rattle.heap_map.specs.Shapes.{text_at, rect}
 use Rattle.heap_map.specs.Totals.{total_of, scattered}

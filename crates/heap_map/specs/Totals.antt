@@ -1,8 +1,8 @@
 -- The bytes of a heap.
 use Rattle.std.specs.Prelude.{ℕ, ◌+◌, ◌-◌, List}
 use Rattle.dlmalloc_chunks.specs.declared.extent.Extent.{Extent}
-use Rattle.heap_figures.specs.Figures.{part_bytes, greatest_of}
-use Rattle.heap_figures.specs.declared.counting.Part.TheVariants.{Used, Free, Overhead}
+use Rattle.run_figures.specs.Figures.{part_bytes, greatest_of}
+use Rattle.run_figures.specs.declared.counting.Part.TheVariants.{Used, Free, Overhead}
 
 -- all bytes
 abbrev pub total_of : List Extent → ℕ

@@ -7,7 +7,7 @@ ghost use Rattle.heap_map.specs.Tiles.{tile_text, live_tiles, heap_words, heap_t
 use crate::shapes::{Area, push_rect, push_text};
 use crate::words::{push_about, push_commas, push_counted, push_percent};
 use dlmalloc_chunks::Extent;
-use heap_figures::{Part, count_part, greatest_free};
+use run_figures::{Part, count_part, greatest_free};
 use std::alloc::{AllocError, Global};
 
 /// The bytes of all extents.

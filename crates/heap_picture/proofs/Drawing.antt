@@ -1,7 +1,7 @@
 -- The parts of a drawing of page tables, one behind the other.
 use Rattle.std.proofs.Common.{◌≡◌, ℕ, List, ◌++◌, length, codes, ◌∙◌, ap, append_assoc}
 use Rattle.paging_core.specs.Memory.{frame_count}
-use Rattle.heap_model.specs.Machine.{Paged}
+use Rattle.machine_model.specs.Machine.{Paged}
 use Rattle.heap_tables.specs.declared.lines.Line.{Line}
 use Rattle.heap_tables.specs.Tables.{tables_text, tables_height}
 use Rattle.heap_picture.specs.Owners.{lines_in}

@@ -4,8 +4,8 @@ use Rattle.std.specs.Prelude.{if◌then◌else◌}
 use Rattle.std.specs.List.{list_any}
 use Rattle.std.proofs.lemmas.Bool.Decides.{nat_tests}
 use Rattle.std.proofs.lemmas.List.{drop_all}
-use Rattle.heap_model.specs.declared.region.Region.{Region}
-use Rattle.heap_model.specs.State.{is_within, end_of_region, total_pages}
+use Rattle.machine_model.specs.declared.region.Region.{Region}
+use Rattle.machine_model.specs.State.{is_within, end_of_region, total_pages}
 use Rattle.heap_picture.specs.Lines.{same, same_rights, adjoins, with_adjoining, region_lines_from, region_lines, most_pages, EachIsInOneLine}
 
 -- what is taken for a region where there is none

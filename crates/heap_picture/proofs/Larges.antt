@@ -1,8 +1,8 @@
 -- Slots, one after another.
 use Rattle.std.proofs.Common.{◌≡◌, ℕ, suc, ◌+◌, ◌-◌, ◌*◌, ◌/◌, List, Bool, refl, sym, ◌∙◌, ap, add-one}
 use Rattle.std.specs.Prelude.{if◌then◌else◌}
-use Rattle.heap_model.specs.Slots.{has_slot}
-use Rattle.heap_model.specs.declared.region.Region.{Region}
+use Rattle.machine_model.specs.Slots.{has_slot}
+use Rattle.machine_model.specs.declared.region.Region.{Region}
 use Rattle.heap_picture.specs.Large.{larges_from, larges_in}
 
 pub larges_none : (large : List ℕ) (start : ℕ) → 0 ≡ larges_from large start 0

@@ -8,11 +8,11 @@ use Rattle.std.proofs.lemmas.Bool.Decides.{nat_tests}
 use Rattle.heap_history.specs.declared.history.Stay.{Stay}
 use Rattle.heap_map.specs.Blocks.{named_at}
 use Rattle.heap_map.specs.declared.blocks.NamedBlock.{NamedBlock}
-use Rattle.heap_model.specs.declared.answer.Answer.{Answer}
-use Rattle.heap_model.specs.declared.call.Call.{Call}
-use Rattle.heap_model.specs.Answer.{after}
-use Rattle.heap_model.specs.Run.{IsAllowedRun, IsGood, last_state}
-use Rattle.heap_model.specs.State.{State, Block, block_at, start}
+use Rattle.machine_model.specs.declared.answer.Answer.{Answer}
+use Rattle.machine_model.specs.declared.call.Call.{Call}
+use Rattle.machine_model.specs.Answer.{after}
+use Rattle.machine_model.specs.Run.{IsAllowedRun, IsGood, last_state}
+use Rattle.machine_model.specs.State.{State, Block, block_at, start}
 use Rattle.heap_recorder.specs.Run.{Notes, nothing, noted, notes_from, moment, bytes_after, history_of}
 use Rattle.heap_recorder.specs.Shown.{count_shown, shows_stay, lies, has_block, state_after, EachBlockIsDrawnOnce}
 use Rattle.heap_recorder.specs.Sizes.{sizes_after}

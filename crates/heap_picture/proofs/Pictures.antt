@@ -5,10 +5,10 @@ use Rattle.std.proofs.lemmas.List.{append-nil, drop_all}
 use Rattle.dlmalloc_chunks.specs.declared.extent.Extent.{Extent}
 use Rattle.heap_history.specs.declared.history.History.{History}
 use Rattle.paging_core.specs.Pool.{free_count}
-use Rattle.heap_model.specs.declared.region.Region.{Region}
-use Rattle.heap_model.specs.State.{State, total_pages}
-use Rattle.heap_model.specs.Place.{all_regions}
-use Rattle.heap_model.specs.Tables.{free_frames}
+use Rattle.machine_model.specs.declared.region.Region.{Region}
+use Rattle.machine_model.specs.State.{State, total_pages}
+use Rattle.machine_model.specs.Place.{all_regions}
+use Rattle.machine_model.specs.Tables.{free_frames}
 use Rattle.paged_systems.specs.System.{paged}
 use Rattle.kernel_heap.specs.Machine.{system_of}
 use Rattle.kernel_heap.specs.declared.machine.Machine.{Machine}

@@ -5,8 +5,8 @@ use Rattle.std.specs.List.{AllByRecursion}
 use Rattle.std.proofs.lemmas.Bool.Decides.{nat_tests}
 use Rattle.paging_core.specs.Address.{is_canonical}
 use Rattle.paging_core.specs.Walk.{Place, large_of}
-use Rattle.heap_model.specs.State.{State}
-use Rattle.heap_model.specs.Slots.{IsSlot, has_slot, slot_number}
+use Rattle.machine_model.specs.State.{State}
+use Rattle.machine_model.specs.Slots.{IsSlot, has_slot, slot_number}
 use Rattle.paged_systems.specs.System.{paged}
 use Rattle.kernel_heap.specs.Machine.{system_of}
 use Rattle.kernel_heap.specs.declared.machine.Machine.{Machine}

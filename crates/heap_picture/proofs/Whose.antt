@@ -6,11 +6,11 @@ use Rattle.std.proofs.lemmas.Bool.Decides.{nat_tests}
 use Rattle.paging_core.specs.Address.{is_canonical}
 use Rattle.paging_core.specs.declared.page_table.Rights.{Rights}
 use Rattle.paging_core.specs.Walk.{Place, large_of, reach, walk_of}
-use Rattle.heap_model.specs.declared.region.Region.{Region}
-use Rattle.heap_model.specs.State.{is_within, end_of_region}
-use Rattle.heap_model.specs.Slots.{slot_number, has_whole, is_whole_in}
-use Rattle.heap_model.specs.Machine.{Paged, rights_of}
-use Rattle.heap_model.proofs.Found.{rights_alike}
+use Rattle.machine_model.specs.declared.region.Region.{Region}
+use Rattle.machine_model.specs.State.{is_within, end_of_region}
+use Rattle.machine_model.specs.Slots.{slot_number, has_whole, is_whole_in}
+use Rattle.machine_model.specs.Machine.{Paged, rights_of}
+use Rattle.machine_model.proofs.Found.{rights_alike}
 use Rattle.mapped_regions.specs.Regions.{AreLaid, kind_at}
 use Rattle.paged_systems.specs.Layout.{IsPagedKept}
 use Rattle.heap_tables.specs.declared.lines.Line.{Line}

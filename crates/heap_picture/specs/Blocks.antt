@@ -3,11 +3,11 @@ use Rattle.std.specs.Prelude.{◌≡◌, ◌↔◌, ℕ, Bool, ◌&&◌, nat_eq,
 use Rattle.std.specs.Option.{option_map}
 use Rattle.heap_history.specs.declared.history.History.{History}
 use Rattle.heap_history.specs.declared.history.Stay.{Stay}
-use Rattle.heap_model.specs.declared.answer.Answer.{Answer}
-use Rattle.heap_model.specs.declared.call.Call.{Call}
-use Rattle.heap_model.specs.declared.config.Config.{Config}
-use Rattle.heap_model.specs.Run.{IsAllowedRun, last_state}
-use Rattle.heap_model.specs.State.{start}
+use Rattle.machine_model.specs.declared.answer.Answer.{Answer}
+use Rattle.machine_model.specs.declared.call.Call.{Call}
+use Rattle.machine_model.specs.declared.config.Config.{Config}
+use Rattle.machine_model.specs.Run.{IsAllowedRun, last_state}
+use Rattle.machine_model.specs.State.{start}
 use Rattle.heap_map.specs.declared.blocks.NamedBlock.{NamedBlock}
 use Rattle.heap_recorder.specs.Run.{history_of}
 use Rattle.heap_recorder.specs.Shown.{has_block}

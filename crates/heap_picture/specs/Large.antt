@@ -1,8 +1,8 @@
 -- The slots of a region that are large pages.
 use Rattle.std.specs.Prelude.{ℕ, zero, suc, ◌+◌, ◌-◌, ◌*◌, ◌/◌, List, if◌then◌else◌}
-use Rattle.heap_model.specs.declared.region.Region.{Region}
-use Rattle.heap_model.specs.State.{end_of_region}
-use Rattle.heap_model.specs.Slots.{has_slot}
+use Rattle.machine_model.specs.declared.region.Region.{Region}
+use Rattle.machine_model.specs.State.{end_of_region}
+use Rattle.machine_model.specs.Slots.{has_slot}
 
 -- how many of this many slots from an address on are large pages
 unfoldable pub larges_from : List ℕ → ℕ → ℕ → ℕ

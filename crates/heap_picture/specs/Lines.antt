@@ -1,8 +1,8 @@
 -- The regions as a picture lists them: neighbours of one owner and equal rights are one line.
 use Rattle.std.specs.Prelude.{◌≡◌, ℕ, ◌+◌, max, Bool, true, false, not, ◌&&◌, nat_eq, List, [], ◌∷◌, if◌then◌else◌}
 use Rattle.std.specs.List.{list_any}
-use Rattle.heap_model.specs.declared.region.Region.{Region}
-use Rattle.heap_model.specs.State.{end_of_region, is_within, total_pages}
+use Rattle.machine_model.specs.declared.region.Region.{Region}
+use Rattle.machine_model.specs.State.{end_of_region, is_within, total_pages}
 use Rattle.paging_core.specs.declared.page_table.Rights.{Rights}
 
 abbrev pub same : Bool → Bool → Bool

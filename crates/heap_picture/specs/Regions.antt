@@ -1,9 +1,9 @@
 -- The regions of the heap and the user, a line each, beside what the heap consists of.
 use Rattle.std.specs.Prelude.{ℕ, ◌+◌, ◌*◌, ◌/◌, min, max, nat_eq, nat_le, List, [], ◌∷◌, ◌++◌, length, take, drop, codes, if◌then◌else◌}
-use Rattle.heap_model.specs.declared.region.Region.{Region}
-use Rattle.heap_model.specs.State.{State, total_pages}
-use Rattle.heap_model.specs.Place.{all_regions}
-use Rattle.heap_model.specs.Tables.{free_frames}
+use Rattle.machine_model.specs.declared.region.Region.{Region}
+use Rattle.machine_model.specs.State.{State, total_pages}
+use Rattle.machine_model.specs.Place.{all_regions}
+use Rattle.machine_model.specs.Tables.{free_frames}
 use Rattle.heap_program.specs.Text.{pages_text, owner_text}
 use Rattle.heap_map.specs.Words.{hexadecimal, commas, quantity}
 use Rattle.heap_map.specs.Shapes.{text_at, rect, titled}

@@ -2,9 +2,9 @@
 use Rattle.std.specs.Prelude.{ℕ, List, ◌++◌, codes}
 use Rattle.dlmalloc_chunks.specs.declared.extent.Extent.{Extent}
 use Rattle.heap_history.specs.declared.history.History.{History}
-use Rattle.heap_model.specs.declared.answer.Answer.{Answer}
-use Rattle.heap_model.specs.declared.call.Call.{Call}
-use Rattle.heap_model.specs.State.{State}
+use Rattle.machine_model.specs.declared.answer.Answer.{Answer}
+use Rattle.machine_model.specs.declared.call.Call.{Call}
+use Rattle.machine_model.specs.State.{State}
 use Rattle.kernel_heap.specs.declared.machine.Machine.{Machine}
 use Rattle.heap_recorder.specs.Run.{history_of}
 use Rattle.heap_time.specs.Time.{time_text, time_height}

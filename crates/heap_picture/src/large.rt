@@ -2,8 +2,8 @@
 ghost use Rattle.std.specs.Prelude.{◌≡◌, ◌≤◌, ◌%◌, ◌<◌, ◌^◌, ◌↔◌, IsSome, IfSome, IsTrue, is_some};
 ghost use Rattle.paging_core.specs.Address.{is_canonical};
 ghost use Rattle.paging_core.specs.Walk.{large_of};
-ghost use Rattle.heap_model.specs.State.{State};
-ghost use Rattle.heap_model.specs.Slots.{slot_number, has_slot};
+ghost use Rattle.machine_model.specs.State.{State};
+ghost use Rattle.machine_model.specs.Slots.{slot_number, has_slot};
 ghost use Rattle.paged_systems.specs.System.{paged};
 ghost use Rattle.heap_program.specs.Progress.{IsAt};
 ghost use Rattle.heap_picture.specs.Large.{larges_from, larges_in};

@@ -1,6 +1,6 @@
 // The regions as a picture lists them.
 ghost use Rattle.std.specs.Prelude.{◌≡◌, ◌<◌, ◌+◌, ◌^◌, IfOk};
-ghost use Rattle.heap_model.specs.State.{total_pages};
+ghost use Rattle.machine_model.specs.State.{total_pages};
 ghost use Rattle.heap_picture.specs.Lines.{same, same_rights, adjoins, with_adjoining, region_lines, most_pages};
 
 use kernel_heap::{Region, Rights};

@@ -2,7 +2,7 @@
 ghost use Rattle.std.specs.Prelude.{◌≡◌, ◌≤◌, ◌<◌, ◌++◌, map, string_bytes, OnOk};
 ghost use Rattle.std.specs.Str.{bytes_eq};
 ghost use Rattle.dlmalloc_chunks.specs.Tiling.{AreInSegments};
-ghost use Rattle.heap_model.specs.State.{State};
+ghost use Rattle.machine_model.specs.State.{State};
 ghost use Rattle.heap_program.specs.Progress.{IsAt};
 ghost use Rattle.heap_recorder.specs.Run.{IsRecordOf};
 ghost use Rattle.heap_report.specs.Telling.{Tells};

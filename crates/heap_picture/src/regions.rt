@@ -1,6 +1,6 @@
 // The regions, a line each.
 ghost use Rattle.std.specs.Prelude.{◌≡◌, ◌≤◌, ◌<◌, ◌^◌, ◌++◌, OnOk, string_bytes};
-ghost use Rattle.heap_model.specs.State.{State, total_pages};
+ghost use Rattle.machine_model.specs.State.{State, total_pages};
 ghost use Rattle.heap_program.specs.Progress.{IsAt};
 ghost use Rattle.heap_picture.specs.Regions.{region_line_words, bar_width, region_line_class, region_line_title, pages_bar_text, larges_words, larges_text, region_line_text, region_lines_text, lines_shown, more_regions_words, more_regions_text, regions_list_text, free_front, free_words, free_frames_words, regions_heading, regions_text};
 

@@ -2,7 +2,7 @@
 use Rattle.std.proofs.Common.{◌≡◌, ◌≢◌, ◌≤◌, ◌<◌, ◌+◌, ◌^◌, ◌⊎◌, ℕ, List, [], ◌∷◌, length, map, refl, subst, arith, Option, Some, None, Ok, Err}
 use Rattle.std.specs.Prelude.{String, string_bytes, ◌↔◌, IfSome, IsErrOf, unwrap_or}
 use Rattle.std.specs.declared.alloc.Global.{Global}
-use Rattle.heap_model.specs.declared.config.Config.{Config}
+use Rattle.machine_model.specs.declared.config.Config.{Config}
 use Rattle.kernel_heap.specs.Config.{IsGoodConfig}
 use Rattle.kernel_heap.specs.declared.machine.Machine.{Machine}
 use Rattle.heap_program.specs.declared.arguments.Command.{Command}

@@ -2,11 +2,11 @@
 use Rattle.std.proofs.Common.{◌≡◌, ℕ, ◌+◌, List, [], ◌∷◌, ◌++◌, length, map, Option, Some, refl, sym, ◌∙◌, ap, subst, append_assoc, length-append, arith, take, drop, take-append-drop, inl, inr}
 use Rattle.std.proofs.lemmas.List.{append-nil}
 use Rattle.std.specs.Io.KnownBytes.{Appends}
-use Rattle.heap_model.specs.declared.answer.Answer.{Answer}
-use Rattle.heap_model.specs.declared.call.Call.{Call}
-use Rattle.heap_model.specs.State.{State}
-use Rattle.heap_model.specs.Run.{RunsTo}
-use Rattle.heap_model.proofs.Runs.{runs_none, calls_on}
+use Rattle.machine_model.specs.declared.answer.Answer.{Answer}
+use Rattle.machine_model.specs.declared.call.Call.{Call}
+use Rattle.machine_model.specs.State.{State}
+use Rattle.machine_model.specs.Run.{RunsTo}
+use Rattle.machine_model.proofs.Runs.{runs_none, calls_on}
 use Rattle.kernel_heap.specs.declared.machine.Machine.{Machine}
 use Rattle.kernel_heap.specs.Steps.{StepsTo}
 use Rattle.kernel_heap.proofs.Steps.{calls_steps_on}

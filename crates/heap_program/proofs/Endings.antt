@@ -6,7 +6,7 @@ use Rattle.std.specs.Fmt.{digits}
 use Rattle.std.specs.Char.{digit_value}
 use Rattle.std.specs.List.{AllByRecursion}
 use Rattle.std.specs.Str.Parse.{AllDigits, digits_value}
-use Rattle.heap_lines.specs.Written.{hexadecimal}
+use Rattle.call_lines.specs.Written.{hexadecimal}
 use Rattle.heap_program.specs.Text.{span_text, spaced}
 
 pub head_of : {x y : ℕ} {xs ys : List ℕ} → x ∷ xs ≡ y ∷ ys → x ≡ y

@@ -2,14 +2,14 @@
 use Rattle.std.proofs.Common.{◌≡◌, ℕ, true, false, [], ◌∷◌, ◌++◌, map, codes, refl, Some, None, lit<, lit≤}
 use Rattle.dlmalloc_chunks.specs.declared.extent.Kind.TheVariants.{Used, Free as Binned, Victim, Top, Record, Foot}
 use Rattle.paging_core.specs.declared.processor_access.AccessKind.TheVariants.{Read as Reading, Write as Writing, Fetch as Fetching}
-use Rattle.heap_model.specs.declared.call.Call.TheVariants.{Malloc, Calloc, Realloc, CRealloc, Free, Write, Read, Map, Unmap, Probe, Trim, SetRate, SetGranularity, Reset, Extents}
-use Rattle.heap_model.specs.declared.answer.Reply.TheVariants.{Block, Done, Bytes, Byte, Trimmed, Accepted, Released, Extents as Listed, Refused}
-use Rattle.heap_model.specs.declared.answer.Refusal.TheVariants.{NoFrames, UnknownRegion, NotCanonical}
+use Rattle.machine_model.specs.declared.call.Call.TheVariants.{Malloc, Calloc, Realloc, CRealloc, Free, Write, Read, Map, Unmap, Probe, Trim, SetRate, SetGranularity, Reset, Extents}
+use Rattle.machine_model.specs.declared.answer.Reply.TheVariants.{Block, Done, Bytes, Byte, Trimmed, Accepted, Released, Extents as Listed, Refused}
+use Rattle.machine_model.specs.declared.answer.Refusal.TheVariants.{NoFrames, UnknownRegion, NotCanonical}
 use Rattle.std.specs.Fmt.{digits}
 use Rattle.hex.proofs.OnLiterals.{hex_on_literals}
-use Rattle.heap_model.specs.Room.{heap_region}
-use Rattle.heap_model.specs.State.{start}
-use Rattle.heap_lines.specs.Grammar.{item_of}
+use Rattle.machine_model.specs.Room.{heap_region}
+use Rattle.machine_model.specs.State.{start}
+use Rattle.call_lines.specs.Grammar.{item_of}
 use Rattle.heap_program.specs.declared.arguments.Command.TheVariants.{Run, Generate}
 use Rattle.kernel_heap.specs.Config.{IsGoodConfig}
 use Rattle.heap_program.specs.Command.{default_config, config_of, named_command}

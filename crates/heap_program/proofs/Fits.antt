@@ -12,25 +12,25 @@ use Rattle.dlmalloc_chunks.specs.declared.extent.Kind.{Kind}
 use Rattle.dlmalloc_chunks.specs.declared.extent.Kind.TheVariants.{Used, Free as Binned, Victim, Top, Record, Foot}
 use Rattle.dlmalloc_chunks.specs.Request.{wanted}
 use Rattle.dlmalloc_chunks.specs.Tiling.{IsSize, has_byte}
-use Rattle.heap_model.specs.declared.answer.Answer.{Answer}
-use Rattle.heap_model.specs.declared.answer.Reply.{Reply}
-use Rattle.heap_model.specs.declared.answer.Reply.TheVariants.{Block as Placed, Done, Bytes, Byte, Fault, Trimmed, Accepted, Released, Extents as Listed, Refused}
+use Rattle.machine_model.specs.declared.answer.Answer.{Answer}
+use Rattle.machine_model.specs.declared.answer.Reply.{Reply}
+use Rattle.machine_model.specs.declared.answer.Reply.TheVariants.{Block as Placed, Done, Bytes, Byte, Fault, Trimmed, Accepted, Released, Extents as Listed, Refused}
 use Rattle.paging_core.specs.declared.processor_access.AccessKind.{AccessKind}
 use Rattle.paging_core.specs.declared.processor_access.AccessKind.TheVariants.{Read as Reading, Write as Writing, Fetch as Fetching}
-use Rattle.heap_model.specs.declared.call.Call.{Call}
-use Rattle.heap_model.specs.declared.call.Call.TheVariants.{Malloc, Calloc, Realloc, CRealloc, Free, Write, Read, Probe, SetGranularity, Reset, Extents, Map, Unmap}
-use Rattle.heap_model.specs.declared.region.Region.{Region}
-use Rattle.heap_model.specs.State.{State, Block, Cell, Fresh, Known, block_at, is_within}
-use Rattle.heap_model.specs.Extents.{IsTiling}
-use Rattle.heap_model.specs.Probe.{rights_at}
+use Rattle.machine_model.specs.declared.call.Call.{Call}
+use Rattle.machine_model.specs.declared.call.Call.TheVariants.{Malloc, Calloc, Realloc, CRealloc, Free, Write, Read, Probe, SetGranularity, Reset, Extents, Map, Unmap}
+use Rattle.machine_model.specs.declared.region.Region.{Region}
+use Rattle.machine_model.specs.State.{State, Block, Cell, Fresh, Known, block_at, is_within}
+use Rattle.machine_model.specs.Extents.{IsTiling}
+use Rattle.machine_model.specs.Probe.{rights_at}
 use Rattle.paging_core.specs.ProcessorAccess.{fault_code}
-use Rattle.heap_model.specs.Answer.{AreBytes, all_ended, seen_block, IsReply, IsResizing, changed, new_block, with_block, resized_block, NewPages, new_pages, with_regions, slots_of, AreNewSlots, after}
-use Rattle.heap_model.specs.Refusal.{own_align, least_align}
-use Rattle.heap_model.specs.Slots.{IsSlotOf}
-use Rattle.heap_model.specs.Run.{IsGood, IsHeapRegion, IsItem, next, IsAllowedRun, last_state}
-use Rattle.heap_model.proofs.Booleans.{or_left, or_right, or_cases}
-use Rattle.heap_model.proofs.Regions.{within, within_bounds}
-use Rattle.heap_model.proofs.Resized.{replaced_here}
+use Rattle.machine_model.specs.Answer.{AreBytes, all_ended, seen_block, IsReply, IsResizing, changed, new_block, with_block, resized_block, NewPages, new_pages, with_regions, slots_of, AreNewSlots, after}
+use Rattle.machine_model.specs.Refusal.{own_align, least_align}
+use Rattle.machine_model.specs.Slots.{IsSlotOf}
+use Rattle.machine_model.specs.Run.{IsGood, IsHeapRegion, IsItem, next, IsAllowedRun, last_state}
+use Rattle.machine_model.proofs.Booleans.{or_left, or_right, or_cases}
+use Rattle.machine_model.proofs.Regions.{within, within_bounds}
+use Rattle.machine_model.proofs.Resized.{replaced_here}
 use Rattle.heap_program.specs.Lines.{lines_of, items_of}
 use Rattle.heap_program.specs.Spelling.{SlotsFit, ExtentFits, ReplyFits, RegionFits, RegionsFit, AnswerFits, RunsSpellOne}
 use Rattle.heap_program.proofs.Spellings.{spells_one}

@@ -2,8 +2,8 @@
 use Rattle.std.proofs.Common.{◌≡◌, ◌≢◌, ℕ, zero, suc, ◌<◌, ◌≤◌, ◌⊎◌, inl, inr, List, [], ◌∷◌, ◌++◌, length, take, drop, append_assoc, map, Option, None, refl, sym, ◌∙◌, ap, arith, length-append}
 use Rattle.std.proofs.lemmas.List.{append-nil, take_all, take-append-drop}
 use Rattle.std.proofs.lemmas.Bool.Decides.{nat_tests}
-use Rattle.heap_model.specs.declared.call.Call.{Call}
-use Rattle.heap_lines.specs.Grammar.{item_of}
+use Rattle.machine_model.specs.declared.call.Call.{Call}
+use Rattle.call_lines.specs.Grammar.{item_of}
 use Rattle.heap_program.specs.Lines.{lines_of, items_of, IsOneLine}
 use Rattle.std.specs.List.{onto_first}
 

@@ -9,14 +9,14 @@ use Rattle.paging_core.specs.ProcessorWalk.{Outcome, NotPresent, Reserved, AtPag
 use Rattle.paging_core.specs.Plain.{ArePlain}
 use Rattle.paging_core.proofs.ProcessorWalk.{walks_alike}
 use Rattle.paging_core.specs.declared.page_table.Rights.{Rights}
-use Rattle.heap_model.specs.declared.config.Config.{Config}
-use Rattle.heap_model.specs.declared.region.Region.{Region}
-use Rattle.heap_model.specs.State.{State, Block, is_within, region_at, block_at, cell_at, cover, start}
-use Rattle.heap_model.specs.Room.{heap_rights}
-use Rattle.heap_model.specs.Run.{IsGood, IsWholePages, IsHeapRegion}
-use Rattle.heap_model.specs.Machine.{Seen, Stands, rights_of}
-use Rattle.heap_model.proofs.Found.{rights_alike}
-use Rattle.heap_model.proofs.Regions.{within_canonical}
+use Rattle.machine_model.specs.declared.config.Config.{Config}
+use Rattle.machine_model.specs.declared.region.Region.{Region}
+use Rattle.machine_model.specs.State.{State, Block, is_within, region_at, block_at, cell_at, cover, start}
+use Rattle.machine_model.specs.Room.{heap_rights}
+use Rattle.machine_model.specs.Run.{IsGood, IsWholePages, IsHeapRegion}
+use Rattle.machine_model.specs.Machine.{Seen, Stands, rights_of}
+use Rattle.machine_model.proofs.Found.{rights_alike}
+use Rattle.machine_model.proofs.Regions.{within_canonical}
 use Rattle.kernel_heap.specs.declared.machine.Machine.{Machine}
 use Rattle.kernel_heap.specs.Machine.{seen}
 use Rattle.heap_program.specs.Generated.{IsGenerated}

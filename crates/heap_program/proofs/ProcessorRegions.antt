@@ -6,7 +6,7 @@ use Rattle.paging_core.specs.PageBits.{bits_of, bits_at}
 use Rattle.paging_core.specs.Plain.{ArePlain}
 use Rattle.paging_core.proofs.ProcessorWalk.{walks_alike}
 use Rattle.paging_core.proofs.Plain.{unmarked}
-use Rattle.heap_model.specs.State.{region_at}
+use Rattle.machine_model.specs.State.{region_at}
 use Rattle.heap_program.specs.ProcessorRegions.{FindsEachRegion, LeavesEachTable}
 
 pub finds_regions : FindsEachRegion

@@ -1,8 +1,8 @@
 -- Responses to pieces of the input, one after another.
 use Rattle.std.proofs.Common.{◌≡◌, ℕ, List, [], ◌∷◌, ◌++◌, Option, sym, ◌∙◌, ap, subst, append_assoc, ◌<◌, length, arith}
 use Rattle.std.proofs.lemmas.List.{append-nil}
-use Rattle.heap_model.specs.declared.call.Call.{Call}
-use Rattle.heap_lines.specs.Grammar.{item_of}
+use Rattle.machine_model.specs.declared.call.Call.{Call}
+use Rattle.call_lines.specs.Grammar.{item_of}
 use Rattle.heap_program.specs.Lines.{items_of, IsOneLine}
 use Rattle.heap_program.specs.Responses.{HasResponded, Responded}
 use Rattle.heap_program.proofs.LineLemmas.{items-whole, items-last, items-none}

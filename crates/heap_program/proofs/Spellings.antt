@@ -12,19 +12,19 @@ use Rattle.dlmalloc_chunks.specs.declared.extent.Kind.{Kind}
 use Rattle.dlmalloc_chunks.specs.declared.extent.Kind.TheVariants.{Used, Free, Victim, Top, Record, Foot}
 use Rattle.x86_flags.specs.PageFaultErrorCode.{page_fault_bits}
 use Rattle.x86_flags.specs.declared.page_fault_error_code.PageFaultErrorCode.{PageFaultErrorCode}
-use Rattle.heap_model.specs.declared.answer.Answer.{Answer}
-use Rattle.heap_model.specs.declared.answer.Reply.{Reply}
-use Rattle.heap_model.specs.declared.answer.Reply.TheVariants.{Block, Done, Bytes, Byte, Fault, Trimmed, Accepted, Released, Extents, Refused}
-use Rattle.heap_model.specs.declared.answer.Refusal.{Refusal}
-use Rattle.heap_model.specs.declared.answer.Refusal.TheVariants.{BadAlign, TooLarge, NoSpace, NoFrames, UnknownBlock, OutOfBlock, BadRange, HeapRegion, Overlap, UnknownRegion, NotCanonical}
-use Rattle.heap_model.specs.declared.region.Region.{Region}
-use Rattle.heap_model.specs.Room.{heap_region}
-use Rattle.heap_model.specs.Place.{all_regions}
-use Rattle.heap_model.specs.Tables.{free_frames}
-use Rattle.heap_model.specs.State.{State}
+use Rattle.machine_model.specs.declared.answer.Answer.{Answer}
+use Rattle.machine_model.specs.declared.answer.Reply.{Reply}
+use Rattle.machine_model.specs.declared.answer.Reply.TheVariants.{Block, Done, Bytes, Byte, Fault, Trimmed, Accepted, Released, Extents, Refused}
+use Rattle.machine_model.specs.declared.answer.Refusal.{Refusal}
+use Rattle.machine_model.specs.declared.answer.Refusal.TheVariants.{BadAlign, TooLarge, NoSpace, NoFrames, UnknownBlock, OutOfBlock, BadRange, HeapRegion, Overlap, UnknownRegion, NotCanonical}
+use Rattle.machine_model.specs.declared.region.Region.{Region}
+use Rattle.machine_model.specs.Room.{heap_region}
+use Rattle.machine_model.specs.Place.{all_regions}
+use Rattle.machine_model.specs.Tables.{free_frames}
+use Rattle.machine_model.specs.State.{State}
 use Rattle.heap_program.specs.Progress.{texts_of}
 use Rattle.heap_program.specs.Spelling.{ExtentFits, ReplyFits, RegionFits, RegionsFit, SlotsFit, AnswerFits, SpellsOne}
-use Rattle.heap_lines.specs.Written.{hexadecimal}
+use Rattle.call_lines.specs.Written.{hexadecimal}
 use Rattle.heap_program.specs.Text.{span_text, kind_word, spaced, extent_text, reply_text, pages_text, heap_regions_text, region_line, heap_line, large_line, text_of, line_text, counts_line, end_text_of}
 use Rattle.heap_program.proofs.Endings.{head_of, tail_of, told_end, digits_end, decimal_end, hex_end, span_end, Ends, items_end}
 

@@ -1,9 +1,9 @@
 -- What is printed of regions, and at the end.
 use Rattle.std.proofs.Common.{◌≡◌, ℕ, ◌<◌, List, [], ◌∷◌, ◌++◌, length, refl, ◌∙◌, arith}
 use Rattle.std.specs.List.{flat_map}
-use Rattle.heap_model.specs.declared.region.Region.{Region}
-use Rattle.heap_model.specs.State.{State}
-use Rattle.heap_model.specs.Machine.{Seen, Stands}
+use Rattle.machine_model.specs.declared.region.Region.{Region}
+use Rattle.machine_model.specs.State.{State}
+use Rattle.machine_model.specs.Machine.{Seen, Stands}
 use Rattle.paging_core.specs.Pool.{free_count}
 use Rattle.heap_program.specs.Text.{spaced, pages_text, heap_regions_text, region_line, counts_line, end_text_of}
 

@@ -4,9 +4,9 @@ use Rattle.std.proofs.lemmas.List.{append-nil}
 use Rattle.std.proofs.lemmas.Grind.{flat_map-append}
 use Rattle.std.specs.Prelude.{unwrap_or, IsErrAnd}
 use Rattle.std.specs.Io.KnownBytes.{Appends, Consumes, Keeps, IsAtEnd}
-use Rattle.heap_model.specs.declared.answer.Answer.{Answer}
-use Rattle.heap_model.specs.declared.call.Call.{Call}
-use Rattle.heap_model.specs.State.{State}
+use Rattle.machine_model.specs.declared.answer.Answer.{Answer}
+use Rattle.machine_model.specs.declared.call.Call.{Call}
+use Rattle.machine_model.specs.State.{State}
 use Rattle.kernel_heap.specs.declared.machine.Machine.{Machine}
 use Rattle.heap_program.specs.declared.session.Session.{Session}
 use Rattle.heap_program.specs.declared.run.Stop.{Stop}
@@ -15,9 +15,9 @@ use Rattle.heap_program.specs.Advanced.{Advanced}
 use Rattle.heap_program.specs.Answering.{IsAnswering}
 use Rattle.heap_program.specs.Flushed.{IsAllFlushed}
 use Rattle.heap_program.specs.Headline.{ending_of, IsCaughtUp, IsFront, IsInterrupted, IsKeptUp, IsReadWhole, IsStopped}
-use Rattle.heap_lines.specs.Grammar.{item_of}
+use Rattle.call_lines.specs.Grammar.{item_of}
 use Rattle.heap_program.specs.Lines.{items_of, IsOneLine}
-use Rattle.heap_model.specs.Run.{RunsTo}
+use Rattle.machine_model.specs.Run.{RunsTo}
 use Rattle.heap_program.specs.Progress.{texts_of, IsAt, IsEnd}
 use Rattle.heap_program.specs.Responses.{Responded, IsResponseFront, HasCaughtUp, HasHeld, HasKeptUp}
 use Rattle.heap_program.specs.Stepped.{IsAnsweredBy}
@@ -26,7 +26,7 @@ use Rattle.heap_program.specs.Text.{line_text, end_text_of}
 use Rattle.heap_program.proofs.Fits.{run_fits, length-items}
 use Rattle.heap_program.proofs.Known.{appends_nothing, appends_more, consumes_nothing, consumes_more, consumes_keeps}
 use Rattle.heap_program.proofs.LineLemmas.{items-whole, items-none}
-use Rattle.heap_model.proofs.Runs.{runs_none, run_on}
+use Rattle.machine_model.proofs.Runs.{runs_none, run_on}
 use Rattle.kernel_heap.specs.Steps.{StepsTo}
 use Rattle.kernel_heap.proofs.Steps.{steps_on}
 use Rattle.heap_program.proofs.Runs.{responded_more}

@@ -1,7 +1,7 @@
 -- How a session goes on.
 use Rattle.std.specs.Prelude.{◌≡◌, ℕ, List, ◌++◌, Option, string_bytes}
-use Rattle.heap_model.specs.declared.call.Call.{Call}
-use Rattle.heap_model.specs.State.{State}
+use Rattle.machine_model.specs.declared.call.Call.{Call}
+use Rattle.machine_model.specs.State.{State}
 use Rattle.kernel_heap.specs.declared.machine.Machine.{Machine}
 use Rattle.heap_program.specs.declared.session.Session.{Session}
 use Rattle.heap_program.specs.Progress.{IsEnd}

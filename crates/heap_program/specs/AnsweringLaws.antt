@@ -1,8 +1,8 @@
 -- Laws of answers, one run after another.
 use Rattle.std.proofs.Common.{ℕ, List, [], ◌++◌, Option, refl, sym, ◌∙◌}
 use Rattle.std.proofs.lemmas.Grind.{flat_map-append}
-use Rattle.heap_model.specs.declared.call.Call.{Call}
-use Rattle.heap_model.proofs.Runs.{runs_none, run_on}
+use Rattle.machine_model.specs.declared.call.Call.{Call}
+use Rattle.machine_model.proofs.Runs.{runs_none, run_on}
 use Rattle.kernel_heap.specs.declared.machine.Machine.{Machine}
 use Rattle.kernel_heap.proofs.Steps.{steps_on}
 use Rattle.heap_program.specs.Answering.{IsAnswering}

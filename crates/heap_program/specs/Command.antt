@@ -3,10 +3,10 @@ use Rattle.std.specs.Prelude.{◌≤◌, ⊤, ℕ, ◌^◌, List, [], ◌∷◌,
 use Rattle.std.specs.Option.{option_and_then, option_map}
 use Rattle.std.specs.Str.{bytes_eq}
 use Rattle.std.specs.declared.alloc.Global.{Global}
-use Rattle.heap_model.specs.declared.config.Config.{Config}
+use Rattle.machine_model.specs.declared.config.Config.{Config}
 use Rattle.heap_program.specs.declared.arguments.Command.{Command}
 use Rattle.heap_program.specs.declared.arguments.Command.TheVariants.{Run, Generate}
-use Rattle.heap_lines.specs.Number.{number_of}
+use Rattle.call_lines.specs.Number.{number_of}
 
 -- the configuration of a command that names none
 abbrev pub default_config : Config

@@ -1,8 +1,8 @@
 -- How a drawing goes on.
 use Rattle.std.specs.Prelude.{◌≡◌, ℕ, ◌+◌, List, [], ◌∷◌, ◌++◌, length, map, Some}
-use Rattle.heap_model.specs.declared.answer.Answer.{Answer}
-use Rattle.heap_model.specs.State.{State}
-use Rattle.heap_model.specs.Run.{RunsTo}
+use Rattle.machine_model.specs.declared.answer.Answer.{Answer}
+use Rattle.machine_model.specs.State.{State}
+use Rattle.machine_model.specs.Run.{RunsTo}
 use Rattle.kernel_heap.specs.Steps.{StepsTo}
 use Rattle.heap_program.specs.declared.generate.Drawing.{Drawing}
 use Rattle.heap_program.specs.Generator.{drawn_call, drawn_thrice, numbers_given, refusals, drawn_calls, blocks_given, refused_count}

@@ -1,10 +1,10 @@
 -- The calls that are drawn from a seed.
 use Rattle.std.specs.Prelude.{ℕ, ◌+◌, ◌-◌, ◌*◌, ◌/◌, ◌%◌, ◌^◌, min, bit_xor, ◌==◌, ◌&&◌, nat_le, List, [], ◌∷◌, slice_index_or, if◌then◌else◌}
-use Rattle.heap_model.specs.declared.answer.Answer.{Answer}
-use Rattle.heap_model.specs.declared.answer.Reply.{Reply}
-use Rattle.heap_model.specs.declared.answer.Reply.TheVariants.{Block, Refused}
-use Rattle.heap_model.specs.declared.call.Call.{Call}
-use Rattle.heap_model.specs.declared.call.Call.TheVariants.{Malloc, Calloc, Realloc, Write, Free}
+use Rattle.machine_model.specs.declared.answer.Answer.{Answer}
+use Rattle.machine_model.specs.declared.answer.Reply.{Reply}
+use Rattle.machine_model.specs.declared.answer.Reply.TheVariants.{Block, Refused}
+use Rattle.machine_model.specs.declared.call.Call.{Call}
+use Rattle.machine_model.specs.declared.call.Call.TheVariants.{Malloc, Calloc, Realloc, Write, Free}
 
 -- A draw from a state of 64 bits: the xorshift generator with the shifts 13, 7 and 17. The number drawn is the next state.
 unfoldable pub drawn : ℕ → ℕ

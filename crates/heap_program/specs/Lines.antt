@@ -1,8 +1,8 @@
 -- The lines of an input, and what each asks for.
 use Rattle.std.specs.Prelude.{◌≢◌, ℕ, List, [], ◌∷◌, map, Option, if◌then◌else◌, ◌==◌}
 use Rattle.std.specs.List.{onto_first, AllByRecursion}
-use Rattle.heap_model.specs.declared.call.Call.{Call}
-use Rattle.heap_lines.specs.Grammar.{item_of}
+use Rattle.machine_model.specs.declared.call.Call.{Call}
+use Rattle.call_lines.specs.Grammar.{item_of}
 
 -- a line ends with a line feed; a last line without one counts if it has a byte
 abbrev pub lines_of : List ℕ → List (List ℕ)

@@ -3,9 +3,9 @@ use Rattle.std.specs.Prelude.{◌≡◌, ◌≢◌, ℕ, ◌+◌, ◌*◌, ◌/�
 use Rattle.paging_core.specs.Memory.{word_at, byte_of, frame_count}
 use Rattle.paging_core.specs.Walk.{Place}
 use Rattle.paging_core.specs.ProcessorWalk.{AtPage, processor_walk}
-use Rattle.heap_model.specs.State.{State, Cell, Known, Block, block_at, cell_at, cover}
-use Rattle.heap_model.specs.Run.{IsGood}
-use Rattle.heap_model.specs.Machine.{Seen, Stands, outline}
+use Rattle.machine_model.specs.State.{State, Cell, Known, Block, block_at, cell_at, cover}
+use Rattle.machine_model.specs.Run.{IsGood}
+use Rattle.machine_model.specs.Machine.{Seen, Stands, outline}
 
 -- A processor's walk ends at a present page at the address, which may be written and lies in the memory; and if the byte that
 -- was last written there is known, it is the one in the page. `width` is how many bits a physical address has.

@@ -7,8 +7,8 @@ use Rattle.paging_core.specs.Walk.{Place, reach}
 use Rattle.paging_core.specs.PageBits.{bits_of, bits_at}
 use Rattle.paging_core.specs.Plain.{marked}
 use Rattle.paging_core.specs.ProcessorWalk.{processor_walk, page_of, is_refused}
-use Rattle.heap_model.specs.State.{State, region_at}
-use Rattle.heap_model.specs.Machine.{Seen, Stands}
+use Rattle.machine_model.specs.State.{State, region_at}
+use Rattle.machine_model.specs.Machine.{Seen, Stands}
 
 -- A processor whose physical addresses reach the whole memory finds a page if and only if a region of the state holds it, with
 -- the region's rights, of type 0, as usual memory, and not global; and it meets no reserved bit.

@@ -1,7 +1,7 @@
 -- Responses to the items of an input.
 use Rattle.std.specs.Prelude.{◌≡◌, ◌≤◌, ℕ, List, [], ◌∷◌, ◌++◌, length, Option}
 use Rattle.std.specs.Io.KnownBytes.{Appends, Consumes}
-use Rattle.heap_model.specs.declared.call.Call.{Call}
+use Rattle.machine_model.specs.declared.call.Call.{Call}
 use Rattle.heap_program.specs.Lines.{items_of}
 
 -- It responded to these items at the end of the output.

@@ -1,7 +1,7 @@
 -- Answers are those of one machine, which took a step for each.
 use Rattle.std.specs.Prelude.{◌≡◌, ℕ, List, map, Option, Some, IfSome}
-use Rattle.heap_model.specs.declared.config.Config.{Config}
-use Rattle.heap_model.specs.State.{State, start}
+use Rattle.machine_model.specs.declared.config.Config.{Config}
+use Rattle.machine_model.specs.State.{State, start}
 use Rattle.kernel_heap.specs.declared.machine.Machine.{Machine}
 use Rattle.kernel_heap.specs.Steps.{IsNewMachine, StepsTo}
 use Rattle.heap_program.specs.declared.arguments.Command.{Command}

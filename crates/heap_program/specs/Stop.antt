@@ -1,8 +1,8 @@
 -- Why a run stops before its end, and what it has read and written by then.
 use Rattle.std.specs.Prelude.{◌≡◌, ◌+◌, ◌<◌, ◌≤◌, ◌^◌, ◌↔◌, ℕ, List, [], length, Option, string_bytes}
 use Rattle.std.specs.Io.KnownBytes.{Appends, Consumes}
-use Rattle.heap_model.specs.declared.call.Call.{Call}
-use Rattle.heap_model.specs.State.{State}
+use Rattle.machine_model.specs.declared.call.Call.{Call}
+use Rattle.machine_model.specs.State.{State}
 use Rattle.kernel_heap.specs.declared.machine.Machine.{Machine}
 use Rattle.heap_program.specs.declared.run.Stop.{Stop}
 use Rattle.heap_program.specs.declared.run.Stop.TheVariants.{Memory, ReadFault, WriteFault, TooLong}

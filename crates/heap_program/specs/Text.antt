@@ -5,15 +5,15 @@ use Rattle.hex.specs.Hex.{encode_lower}
 use Rattle.dlmalloc_chunks.specs.declared.extent.Extent.{Extent}
 use Rattle.dlmalloc_chunks.specs.declared.extent.Kind.{Kind}
 use Rattle.dlmalloc_chunks.specs.declared.extent.Kind.TheVariants.{Used, Free, Victim, Top, Record, Foot}
-use Rattle.heap_model.specs.declared.answer.Answer.{Answer}
-use Rattle.heap_model.specs.declared.answer.Reply.{Reply}
-use Rattle.heap_model.specs.declared.answer.Reply.TheVariants.{Block, Done, Bytes, Byte, Fault, Trimmed, Accepted, Released, Extents, Refused}
-use Rattle.heap_model.specs.declared.region.Region.{Region}
-use Rattle.heap_model.specs.State.{State}
-use Rattle.heap_model.specs.Place.{all_regions}
-use Rattle.heap_model.specs.Tables.{free_frames}
+use Rattle.machine_model.specs.declared.answer.Answer.{Answer}
+use Rattle.machine_model.specs.declared.answer.Reply.{Reply}
+use Rattle.machine_model.specs.declared.answer.Reply.TheVariants.{Block, Done, Bytes, Byte, Fault, Trimmed, Accepted, Released, Extents, Refused}
+use Rattle.machine_model.specs.declared.region.Region.{Region}
+use Rattle.machine_model.specs.State.{State}
+use Rattle.machine_model.specs.Place.{all_regions}
+use Rattle.machine_model.specs.Tables.{free_frames}
 use Rattle.x86_flags.specs.PageFaultErrorCode.{page_fault_bits}
-pub use Rattle.heap_lines.specs.Written.{hexadecimal, refusal_word, rights_word}
+pub use Rattle.call_lines.specs.Written.{hexadecimal, refusal_word, rights_word}
 
 -- the first address of something, and how many bytes or pages it has
 abbrev pub span_text : ℕ → ℕ → List ℕ

@@ -1,9 +1,9 @@
 // What the words of the program ask for.
 ghost use Rattle.std.specs.Prelude.{◌≡◌, map, string_bytes, IfSome};
 ghost use Rattle.heap_program.specs.Command.{frames_argument, config_from, config_of, generate_from, generate_of, command_of, HasFewCalls};
-ghost use Rattle.heap_lines.specs.Number.{number_of};
+ghost use Rattle.call_lines.specs.Number.{number_of};
 
-use heap_lines::number;
+use call_lines::number;
 use kernel_heap::Config;
 
 /// The configuration of a command that names none.

@@ -1,6 +1,6 @@
 // The command of the program.
 ghost use Rattle.std.specs.Prelude.{◌≡◌, ℕ, Some, None, ◌↔◌, IsSome, IfSome};
-ghost use Rattle.heap_model.specs.declared.config.Config.{Config};
+ghost use Rattle.machine_model.specs.declared.config.Config.{Config};
 ghost use Rattle.heap_program.specs.declared.arguments.Command.TheVariants.{Run, Generate};
 ghost use Rattle.heap_program.specs.Command.{command_of};
 ghost use Rattle.heap_program.specs.Done.{IsRunDone, IsGenerationDone, IsStatusOf};

@@ -1,6 +1,6 @@
 // A run over calls that are drawn.
 ghost use Rattle.std.specs.Prelude.{◌≡◌, ◌≤◌, ◌⊎◌, ◌<◌, ◌+◌, ◌^◌, IfOk, OnOk, OnErr, ◌↔◌, IsSome, IfSome};
-ghost use Rattle.heap_model.specs.State.{State, start};
+ghost use Rattle.machine_model.specs.State.{State, start};
 ghost use Rattle.heap_program.specs.Drawing.{HasDrawnOne, HasDrawnCalls};
 ghost use Rattle.heap_program.specs.Generated.{IsGenerationStopped};
 ghost use Rattle.heap_program.specs.Generator.{first_state, numbers_given, refusals};

@@ -19,10 +19,10 @@ mod source;
 mod text;
 
 pub use arguments::config_of;
+pub use call_lines::parse_call;
 pub use command::heap_main;
 pub use ended::{Ended, refusal_status, status_of, status_text};
 pub use generator::next_call;
-pub use heap_lines::parse_call;
 pub use laws::{live_blocks, one_spelling};
 pub use memory::{MemorySink, MemorySource};
 pub use respond::Respond;

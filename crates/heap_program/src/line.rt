@@ -1,5 +1,5 @@
 // The line that has begun.
-use heap_lines::LONGEST_LINE;
+use call_lines::LONGEST_LINE;
 use std::alloc::{AllocError, Global};
 use std::marker::Model;
 

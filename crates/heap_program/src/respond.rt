@@ -1,6 +1,6 @@
 // What responds to the lines of an input.
 ghost use Rattle.std.specs.Prelude.{ℕ, List, [], ◌∷◌, ◌++◌, Option, OnOk, string_bytes};
-ghost use Rattle.heap_model.specs.declared.call.Call.{Call};
+ghost use Rattle.machine_model.specs.declared.call.Call.{Call};
 ghost use Rattle.heap_program.specs.Responses.{HasResponded};
 
 use kernel_heap::Call;

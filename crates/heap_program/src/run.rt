@@ -1,7 +1,7 @@
 // A whole run, from the source to the sink.
 ghost use Rattle.std.specs.Prelude.{◌≡◌, ◌<◌, ◌^◌, ◌+◌, ◌↔◌, [], ℕ, length, take, unwrap_or, string_bytes, IfSome, IfOk, IfErr, OnOk, OnErr, IsErrOf};
 ghost use Rattle.std.specs.Io.KnownBytes.{Appends};
-ghost use Rattle.heap_model.specs.State.{State};
+ghost use Rattle.machine_model.specs.State.{State};
 ghost use Rattle.heap_program.specs.Flushed.{IsAllFlushed};
 ghost use Rattle.heap_program.specs.Lines.{IsOneLine};
 ghost use Rattle.heap_program.specs.Outcomes.{TellsSinkFaults, TellsSinkStop, TellsRunFaults, HasFlushed, IsReadToEnd, HasRunInPart};

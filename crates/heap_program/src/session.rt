@@ -1,7 +1,7 @@
 // What responds to the lines, the line that has begun and the text that is not yet written.
 ghost use Rattle.std.specs.Prelude.{◌≡◌, ◌∷◌, [], ◌++◌, ◌<◌, ◌≤◌, IfOk, OnOk, length, slice_index, take, string_bytes};
-ghost use Rattle.heap_model.specs.State.{State};
-ghost use Rattle.heap_lines.specs.Grammar.{item_of};
+ghost use Rattle.machine_model.specs.State.{State};
+ghost use Rattle.call_lines.specs.Grammar.{item_of};
 ghost use Rattle.heap_program.specs.Lines.{items_of, IsOneLine};
 ghost use Rattle.heap_program.specs.Progress.{IsAt};
 ghost use Rattle.heap_program.specs.Advanced.{Advanced, IsFinished};
@@ -10,7 +10,7 @@ ghost use Rattle.heap_program.specs.Responses.{HasResponded};
 use crate::line::Line;
 use crate::respond::Respond;
 use crate::text::push_end;
-use heap_lines::{first_of, parse_call};
+use call_lines::{first_of, parse_call};
 use kernel_heap::Machine;
 use std::alloc::{AllocError, Global};
 

@@ -1,15 +1,15 @@
 // What is printed.
 ghost use Rattle.std.specs.Prelude.{◌≡◌, ◌++◌, IfOk, OnOk, string_bytes};
 ghost use Rattle.std.specs.List.{flat_map};
-ghost use Rattle.heap_model.specs.State.{State};
-ghost use Rattle.heap_model.specs.Machine.{Stands};
+ghost use Rattle.machine_model.specs.State.{State};
+ghost use Rattle.machine_model.specs.Machine.{Stands};
 ghost use Rattle.kernel_heap.specs.Machine.{seen};
-ghost use Rattle.heap_lines.specs.Written.{hexadecimal};
+ghost use Rattle.call_lines.specs.Written.{hexadecimal};
 ghost use Rattle.heap_program.specs.Text.{text_of, reply_text, bytes_text, truth_word, span_text, spaced, kind_word, extent_text, pages_text, heap_regions_text, heap_line, large_line, owner_text, region_line, counts_line, tally_line, end_text_of};
 
 use crate::digits::{push_block, push_digits};
 use bitflags::Flags;
-use heap_lines::{push_rights, refusal_word};
+use call_lines::{push_rights, refusal_word};
 use kernel_heap::{Answer, Bytes, Extent, Kind, Machine, Region, RegionList, Reply, SlotList};
 use std::alloc::{AllocError, Global};
 

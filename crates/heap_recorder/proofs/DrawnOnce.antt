@@ -1,11 +1,11 @@
 -- Each block is drawn once.
 use Rattle.std.proofs.Common.{◌≡◌, ◌<◌, ℕ, zero, suc, ◌+◌, List, [], ◌∷◌, length, length-append, map, Some, refl, sym, ◌∙◌, ap, subst, arith}
-use Rattle.heap_model.specs.declared.answer.Answer.{Answer}
-use Rattle.heap_model.specs.declared.call.Call.{Call}
-use Rattle.heap_model.specs.declared.config.Config.{Config}
-use Rattle.heap_model.specs.Answer.{after}
-use Rattle.heap_model.specs.Run.{IsAllowedRun}
-use Rattle.heap_model.specs.State.{State, start}
+use Rattle.machine_model.specs.declared.answer.Answer.{Answer}
+use Rattle.machine_model.specs.declared.call.Call.{Call}
+use Rattle.machine_model.specs.declared.config.Config.{Config}
+use Rattle.machine_model.specs.Answer.{after}
+use Rattle.machine_model.specs.Run.{IsAllowedRun}
+use Rattle.machine_model.specs.State.{State, start}
 use Rattle.heap_recorder.specs.Run.{Notes, nothing, noted, notes_from, moment, bytes_after}
 use Rattle.heap_recorder.specs.Shown.{count_shown, has_block, state_after, EachBlockIsDrawnOnce}
 use Rattle.heap_recorder.specs.Sizes.{sizes_after}

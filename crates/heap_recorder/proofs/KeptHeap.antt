@@ -3,15 +3,15 @@ use Rattle.std.proofs.Common.{◌≡◌, ◌<◌, ◌≤◌, ℕ, zero, suc, ◌
 use Rattle.std.specs.Prelude.{if◌then◌else◌, ⊤}
 use Rattle.std.specs.List.{AllByRecursion}
 use Rattle.heap_history.specs.declared.history.Held.{Held}
-use Rattle.heap_model.specs.declared.answer.Answer.{Answer}
-use Rattle.heap_model.specs.declared.answer.Reply.{Reply}
-use Rattle.heap_model.specs.declared.answer.Reply.TheVariants.{Block as Placed, Done, Bytes, Byte, Accepted, Released}
-use Rattle.heap_model.specs.declared.call.Call.{Call}
-use Rattle.heap_model.specs.declared.call.Call.TheVariants.{Malloc, Calloc, Realloc, CRealloc, Free, Write, Read, Map, Unmap, Probe, SetGranularity, Reset}
-use Rattle.heap_model.specs.declared.region.Region.{Region}
-use Rattle.heap_model.specs.Answer.{NewPages, after, changed, new_pages, slots_of, with_regions}
-use Rattle.heap_model.specs.Run.{AreRegionsInOrder, IsAllowedRun, IsHeapRegion, IsGood}
-use Rattle.heap_model.specs.State.{State, end_of_region, start}
+use Rattle.machine_model.specs.declared.answer.Answer.{Answer}
+use Rattle.machine_model.specs.declared.answer.Reply.{Reply}
+use Rattle.machine_model.specs.declared.answer.Reply.TheVariants.{Block as Placed, Done, Bytes, Byte, Accepted, Released}
+use Rattle.machine_model.specs.declared.call.Call.{Call}
+use Rattle.machine_model.specs.declared.call.Call.TheVariants.{Malloc, Calloc, Realloc, CRealloc, Free, Write, Read, Map, Unmap, Probe, SetGranularity, Reset}
+use Rattle.machine_model.specs.declared.region.Region.{Region}
+use Rattle.machine_model.specs.Answer.{NewPages, after, changed, new_pages, slots_of, with_regions}
+use Rattle.machine_model.specs.Run.{AreRegionsInOrder, IsAllowedRun, IsHeapRegion, IsGood}
+use Rattle.machine_model.specs.State.{State, end_of_region, start}
 use Rattle.heap_recorder.specs.Regions.{RegionNotes, has_same_pages, new_held, ended, held_from, regions_from, going, now_after, stays_on, gone_after, regions_noted, regions_at_end}
 use Rattle.heap_recorder.specs.Run.{Notes, nothing, noted, notes_from, heap_noted}
 use Rattle.heap_recorder.specs.Shown.{count_shown, is_heap_part, shows_part, is_region, state_after, EachRegionIsDrawnOnce}

@@ -8,7 +8,7 @@ use Rattle.std.specs.Ordering.{nat_cmp, is_eq}
 use Rattle.std.proofs.lemmas.Map.Lookups.{exact_unsigned}
 use Rattle.std.proofs.lemmas.Bool.Decides.{nat_tests}
 use Rattle.heap_history.specs.declared.history.Mapping.{Mapping}
-use Rattle.heap_model.specs.declared.region.Region.{Region}
+use Rattle.machine_model.specs.declared.region.Region.{Region}
 use Rattle.heap_recorder.specs.Mappings.{is_mapped, is_mapped_from, new_mapping, ended, with_mapping, mapped_from, with_mapping_ended, unmapped_if, ArePlacesByStart}
 use Rattle.heap_recorder.specs.Places.{OnlyAt}
 use Rattle.heap_recorder.proofs.Places.{some_is, none_some, not_true, not_both, get_push, get_set, IsMissed, Keeps, missed_none, missed_past, missed_at, map_missed, find_missed, map_at, find_at}

@@ -1,8 +1,8 @@
 -- One call more of a run.
 use Rattle.std.proofs.Common.{◌≡◌, List, [], ◌∷◌, ◌++◌, length, length-append, refl, sym, ◌∙◌, ap, arith}
 use Rattle.heap_history.specs.declared.history.History.{History}
-use Rattle.heap_model.specs.declared.answer.Answer.{Answer}
-use Rattle.heap_model.specs.declared.call.Call.{Call}
+use Rattle.machine_model.specs.declared.answer.Answer.{Answer}
+use Rattle.machine_model.specs.declared.call.Call.{Call}
 use Rattle.heap_recorder.specs.Run.{Notes, IsRecordOf, nothing, noted, notes_from, history_in, history_of}
 
 notes_more : (notes : Notes) (calls : List Call) (answers : List Answer) (call : Call) (answer : Answer) →

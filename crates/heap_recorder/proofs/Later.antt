@@ -5,10 +5,10 @@ use Rattle.std.proofs.lemmas.Bool.Decides.{nat_tests}
 use Rattle.heap_history.specs.declared.history.Ending.{Ending}
 use Rattle.heap_history.specs.declared.history.Ending.TheVariants.{Live, Freed, Reset as AllEnded}
 use Rattle.heap_history.specs.declared.history.Stay.{Stay}
-use Rattle.heap_model.specs.declared.answer.Reply.{Reply}
-use Rattle.heap_model.specs.declared.answer.Reply.TheVariants.{Block as Placed, Done, Released}
-use Rattle.heap_model.specs.declared.call.Call.{Call}
-use Rattle.heap_model.specs.declared.call.Call.TheVariants.{Malloc, Calloc, Realloc, CRealloc, Free, Reset}
+use Rattle.machine_model.specs.declared.answer.Reply.{Reply}
+use Rattle.machine_model.specs.declared.answer.Reply.TheVariants.{Block as Placed, Done, Released}
+use Rattle.machine_model.specs.declared.call.Call.{Call}
+use Rattle.machine_model.specs.declared.call.Call.TheVariants.{Malloc, Calloc, Realloc, CRealloc, Free, Reset}
 use Rattle.heap_recorder.specs.Shown.{is_spot, count_shown, shows_stay}
 use Rattle.heap_recorder.specs.Stays.{StayNotes, is_live, has_not_ended, is_stay_of, is_stay_at, why, new_stay, ended, ended_of, ended_now, resized_from, stays_after, closed_stay}
 use Rattle.heap_recorder.proofs.Tracked.{alive, bit, left_true, why_over}

@@ -4,7 +4,7 @@ use Rattle.std.proofs.Common.{◌≡◌, ◌<◌, ℕ, ◌+◌, Bool, true, fals
 use Rattle.std.specs.Prelude.{if◌then◌else◌, ⊤}
 use Rattle.std.proofs.lemmas.Bool.Decides.{nat_tests}
 use Rattle.heap_history.specs.declared.history.Held.{Held}
-use Rattle.heap_model.specs.declared.region.Region.{Region}
+use Rattle.machine_model.specs.declared.region.Region.{Region}
 use Rattle.heap_recorder.specs.Regions.{has_same_pages, new_held, ended, held_from, regions_from, going, now_after, stays_on, gone_after}
 use Rattle.heap_recorder.specs.Shown.{count_shown, is_heap_part, shows_part}
 use Rattle.heap_recorder.proofs.Tracked.{bit, left_false}

@@ -5,15 +5,15 @@ use Rattle.std.proofs.lemmas.Bool.Decides.{nat_tests}
 use Rattle.heap_history.specs.declared.history.Ending.{Ending}
 use Rattle.heap_history.specs.declared.history.Ending.TheVariants.{Freed, Reset as AllEnded, Moved, Resized}
 use Rattle.heap_history.specs.declared.history.Stay.{Stay}
-use Rattle.heap_model.specs.declared.answer.Answer.{Answer}
-use Rattle.heap_model.specs.declared.answer.Reply.{Reply}
-use Rattle.heap_model.specs.declared.answer.Reply.TheVariants.{Block as Placed, Done, Bytes, Byte, Accepted, Released}
-use Rattle.heap_model.specs.declared.call.Call.{Call}
-use Rattle.heap_model.specs.declared.call.Call.TheVariants.{Malloc, Calloc, Realloc, CRealloc, Free, Write, Read, Map, Unmap, Probe, SetGranularity, Reset}
-use Rattle.heap_model.specs.declared.region.Region.{Region}
-use Rattle.heap_model.specs.State.{State, Block, Cell, Fresh, Known, block_at}
-use Rattle.heap_model.specs.Refusal.{own_align, least_align}
-use Rattle.heap_model.specs.Answer.{IsReply, IsAllowed, NewPages, after, all_ended, changed, known_block, new_block, new_pages, resized_block, seen_block, slots_of, with_block, with_regions}
+use Rattle.machine_model.specs.declared.answer.Answer.{Answer}
+use Rattle.machine_model.specs.declared.answer.Reply.{Reply}
+use Rattle.machine_model.specs.declared.answer.Reply.TheVariants.{Block as Placed, Done, Bytes, Byte, Accepted, Released}
+use Rattle.machine_model.specs.declared.call.Call.{Call}
+use Rattle.machine_model.specs.declared.call.Call.TheVariants.{Malloc, Calloc, Realloc, CRealloc, Free, Write, Read, Map, Unmap, Probe, SetGranularity, Reset}
+use Rattle.machine_model.specs.declared.region.Region.{Region}
+use Rattle.machine_model.specs.State.{State, Block, Cell, Fresh, Known, block_at}
+use Rattle.machine_model.specs.Refusal.{own_align, least_align}
+use Rattle.machine_model.specs.Answer.{IsReply, IsAllowed, NewPages, after, all_ended, changed, known_block, new_block, new_pages, resized_block, seen_block, slots_of, with_block, with_regions}
 use Rattle.heap_recorder.specs.Shown.{is_spot, count_shown, lies}
 use Rattle.heap_recorder.specs.Stays.{StayNotes, is_live, has_not_ended, is_stay_of, is_stay_at, why, new_stay, ended, ended_of, ended_now, begun, with_block_freed, resized, resized_from, stays_after}
 use Rattle.heap_recorder.proofs.Places.{some_is, none_some, not_true, not_both}

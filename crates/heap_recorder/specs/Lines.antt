@@ -1,7 +1,7 @@
 -- The lines of a run's calls.
 use Rattle.std.specs.Prelude.{ℕ, List, [], ◌∷◌, ◌++◌, length, map, nat_le, nat_lt, if◌then◌else◌}
-use Rattle.heap_model.specs.declared.call.Call.{Call}
-use Rattle.heap_lines.specs.CallLine.{call_line}
+use Rattle.machine_model.specs.declared.call.Call.{Call}
+use Rattle.call_lines.specs.CallLine.{call_line}
 
 -- the lines of the calls so far, and of one more; the number is how many calls came before it
 abbrev pub lines_after : ℕ → Call → List (List ℕ) → List (List ℕ)

@@ -1,7 +1,7 @@
 -- The regions of the heap, as calls change them.
 use Rattle.std.specs.Prelude.{ℕ, Bool, false, ◌&&◌, nat_eq, nat_lt, if◌then◌else◌, List, [], ◌∷◌, ◌++◌, map}
 use Rattle.heap_history.specs.declared.history.Held.{Held}
-use Rattle.heap_model.specs.declared.region.Region.{Region}
+use Rattle.machine_model.specs.declared.region.Region.{Region}
 
 -- the regions that the heap has, by address, with no end yet, and those that it had, in the order in which they ended
 pub record RegionNotes : Type 0 where

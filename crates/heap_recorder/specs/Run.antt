@@ -5,15 +5,15 @@ use Rattle.heap_history.specs.declared.history.LargePage.{LargePage}
 use Rattle.heap_history.specs.declared.history.Mapping.{Mapping}
 use Rattle.heap_history.specs.declared.history.Moment.{Moment}
 use Rattle.heap_history.specs.declared.history.RefusedCall.{RefusedCall}
-use Rattle.heap_model.specs.declared.answer.Answer.{Answer}
-use Rattle.heap_model.specs.declared.answer.Reply.{Reply}
-use Rattle.heap_model.specs.declared.answer.Reply.TheVariants.{Done, Refused}
-use Rattle.heap_model.specs.declared.call.Call.{Call}
-use Rattle.heap_model.specs.declared.call.Call.TheVariants.{Map, Unmap}
-use Rattle.heap_model.specs.declared.region.Region.{Region}
-use Rattle.heap_model.specs.Answer.{slots_of}
-use Rattle.heap_model.specs.Room.{user_region}
-use Rattle.heap_model.specs.State.{total_pages}
+use Rattle.machine_model.specs.declared.answer.Answer.{Answer}
+use Rattle.machine_model.specs.declared.answer.Reply.{Reply}
+use Rattle.machine_model.specs.declared.answer.Reply.TheVariants.{Done, Refused}
+use Rattle.machine_model.specs.declared.call.Call.{Call}
+use Rattle.machine_model.specs.declared.call.Call.TheVariants.{Map, Unmap}
+use Rattle.machine_model.specs.declared.region.Region.{Region}
+use Rattle.machine_model.specs.Answer.{slots_of}
+use Rattle.machine_model.specs.Room.{user_region}
+use Rattle.machine_model.specs.State.{total_pages}
 use Rattle.heap_recorder.specs.Sizes.{sizes_after}
 use Rattle.heap_recorder.specs.Lines.{lines_after, kept_call_lines}
 use Rattle.heap_recorder.specs.Mappings.{with_mapping, with_mapping_ended, mappings_at_end}

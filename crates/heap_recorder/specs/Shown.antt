@@ -2,13 +2,13 @@
 use Rattle.std.specs.Prelude.{◌≡◌, ◌<◌, ℕ, zero, suc, ◌+◌, Bool, false, ◌&&◌, nat_eq, nat_le, nat_lt, if◌then◌else◌, List, [], ◌∷◌, length, map, Option, Some, None}
 use Rattle.heap_history.specs.declared.history.Held.{Held}
 use Rattle.heap_history.specs.declared.history.Stay.{Stay}
-use Rattle.heap_model.specs.declared.answer.Answer.{Answer}
-use Rattle.heap_model.specs.declared.call.Call.{Call}
-use Rattle.heap_model.specs.declared.config.Config.{Config}
-use Rattle.heap_model.specs.declared.region.Region.{Region}
-use Rattle.heap_model.specs.Answer.{after}
-use Rattle.heap_model.specs.Run.{IsAllowedRun}
-use Rattle.heap_model.specs.State.{State, Block, block_at, start}
+use Rattle.machine_model.specs.declared.answer.Answer.{Answer}
+use Rattle.machine_model.specs.declared.call.Call.{Call}
+use Rattle.machine_model.specs.declared.config.Config.{Config}
+use Rattle.machine_model.specs.declared.region.Region.{Region}
+use Rattle.machine_model.specs.Answer.{after}
+use Rattle.machine_model.specs.Run.{IsAllowedRun}
+use Rattle.machine_model.specs.State.{State, Block, block_at, start}
 use Rattle.heap_recorder.specs.Run.{history_of}
 
 -- whether a stay is the block's, at the address and with the size

@@ -1,9 +1,9 @@
 -- What an answer changes of the sizes of blocks.
 use Rattle.std.specs.Prelude.{ℕ, List, [], ◌∷◌, ◌++◌, map, slice_set}
-use Rattle.heap_model.specs.declared.answer.Reply.{Reply}
-use Rattle.heap_model.specs.declared.answer.Reply.TheVariants.{Block, Done, Released}
-use Rattle.heap_model.specs.declared.call.Call.{Call}
-use Rattle.heap_model.specs.declared.call.Call.TheVariants.{Malloc, Calloc, Realloc, CRealloc, Free, Reset}
+use Rattle.machine_model.specs.declared.answer.Reply.{Reply}
+use Rattle.machine_model.specs.declared.answer.Reply.TheVariants.{Block, Done, Released}
+use Rattle.machine_model.specs.declared.call.Call.{Call}
+use Rattle.machine_model.specs.declared.call.Call.TheVariants.{Malloc, Calloc, Realloc, CRealloc, Free, Reset}
 
 -- the sizes after the answer to a call: a block that began comes last, and one that has ended has the size 0
 abbrev pub sizes_after : List ℕ → Call → Reply → List ℕ

@@ -3,10 +3,10 @@ use Rattle.std.specs.Prelude.{ℕ, ◌+◌, Bool, true, false, ◌&&◌, nat_eq,
 use Rattle.heap_history.specs.declared.history.Ending.{Ending}
 use Rattle.heap_history.specs.declared.history.Ending.TheVariants.{Live, Freed, Reset as AllEnded, Moved, Resized}
 use Rattle.heap_history.specs.declared.history.Stay.{Stay}
-use Rattle.heap_model.specs.declared.call.Call.{Call}
-use Rattle.heap_model.specs.declared.call.Call.TheVariants.{Malloc, Calloc, Realloc, CRealloc, Free, Reset}
-use Rattle.heap_model.specs.declared.answer.Reply.{Reply}
-use Rattle.heap_model.specs.declared.answer.Reply.TheVariants.{Block, Done, Released}
+use Rattle.machine_model.specs.declared.call.Call.{Call}
+use Rattle.machine_model.specs.declared.call.Call.TheVariants.{Malloc, Calloc, Realloc, CRealloc, Free, Reset}
+use Rattle.machine_model.specs.declared.answer.Reply.{Reply}
+use Rattle.machine_model.specs.declared.answer.Reply.TheVariants.{Block, Done, Released}
 
 -- how many blocks began, and their stays, in the order in which they began; one that goes on has no end yet
 pub record StayNotes : Type 0 where

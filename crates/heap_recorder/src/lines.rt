@@ -2,9 +2,9 @@
 ghost use Rattle.std.specs.Prelude.{◌≡◌, OnOk};
 ghost use Rattle.heap_recorder.specs.Lines.{lines_after};
 
+use call_lines::line_of;
 use heap_history::LineList;
-use heap_lines::line_of;
-use heap_model::Call;
+use machine_model::Call;
 use std::alloc::{AllocError, Global};
 
 /// Notes the line of the call with this number, counted from 0. From the 65th call on no line is kept.

@@ -5,7 +5,7 @@ ghost use Rattle.std.specs.Ordering.{nat_cmp};
 ghost use Rattle.heap_recorder.specs.Mappings.{is_mapped, is_mapped_from, ended, unmapped_if, closed_mapping};
 
 use heap_history::{Mapping, MappingList};
-use heap_model::{Call, Region, Reply};
+use machine_model::{Call, Region, Reply};
 use std::alloc::{AllocError, Global};
 use std::collections::BTreeMap;
 use std::marker::Model;

@@ -2,8 +2,8 @@
 ghost use Rattle.std.specs.Prelude.{◌≡◌, OnOk};
 ghost use Rattle.heap_recorder.specs.Sizes.{sizes_after};
 
-use heap_figures::BlockSizes;
-use heap_model::{Call, Reply};
+use machine_model::{Call, Reply};
+use run_figures::BlockSizes;
 use std::alloc::AllocError;
 
 /// Notes the answer to a call: a block that began, has another size or ended.

@@ -1,6 +1,6 @@
 // Records a run, as its calls are answered.
 ghost use Rattle.std.specs.Prelude.{◌≡◌, ◌++◌, ◌-◌, length, map, take, OnOk};
-ghost use Rattle.heap_model.specs.Answer.{slots_of};
+ghost use Rattle.machine_model.specs.Answer.{slots_of};
 ghost use Rattle.heap_recorder.specs.Run.{is_map, large_page, heap_noted, bytes_after, mappings_after, larges_after, refused_after};
 
 use crate::lines::note_line;
@@ -8,11 +8,11 @@ use crate::mappings::Mappings;
 use crate::note::note_answer;
 use crate::regions::{Regions, bytes_of};
 use crate::stays::Stays;
-use heap_figures::BlockSizes;
 use heap_history::{
     History, LargePage, LargePageList, LineList, Moment, MomentList, RefusedCall, RefusedList,
 };
-use heap_model::{Answer, Call, Region, RegionList, Reply, SlotList};
+use machine_model::{Answer, Call, Region, RegionList, Reply, SlotList};
+use run_figures::BlockSizes;
 use std::alloc::{AllocError, Global};
 use std::marker::Model;
 
@@ -174,8 +174,8 @@ impl Model for Recorder {
 
 impl Recorder {
     ghost use Rattle.std.specs.Prelude.{◌≡◌, ◌++◌, ◌∷◌, [], List, OnOk, IfOk};
-    ghost use Rattle.heap_model.specs.declared.answer.Answer.{Answer};
-    ghost use Rattle.heap_model.specs.declared.call.Call.{Call};
+    ghost use Rattle.machine_model.specs.declared.answer.Answer.{Answer};
+    ghost use Rattle.machine_model.specs.declared.call.Call.{Call};
     ghost use Rattle.heap_recorder.specs.Run.{IsRecordOf, nothing, noted, history_in, history_of};
 
     /// No call was made yet.

@@ -1,10 +1,10 @@
 // The regions of the heap, as calls change them.
 ghost use Rattle.std.specs.Prelude.{◌≡◌, ◌≤◌, ◌<◌, ◌+◌, ◌*◌, ◌%◌, ◌^◌, ◌++◌, drop, length, map, OnOk, IfOk};
-ghost use Rattle.heap_model.specs.State.{total_pages};
+ghost use Rattle.machine_model.specs.State.{total_pages};
 ghost use Rattle.heap_recorder.specs.Regions.{has_same_pages, new_held, ended, held_from, regions_from, going, now_after, stays_on, gone_after};
 
 use heap_history::{Held, HeldList};
-use heap_model::Region;
+use machine_model::Region;
 use std::alloc::{AllocError, Global};
 use std::marker::Model;
 

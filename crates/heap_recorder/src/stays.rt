@@ -4,7 +4,7 @@ ghost use Rattle.heap_history.specs.declared.history.Stay.{Stay};
 ghost use Rattle.heap_recorder.specs.Stays.{is_live, has_not_ended, is_stay_of, is_stay_at, why, new_stay, ended, ended_of, ended_now, closed_stay};
 
 use heap_history::{Ending, Stay, StayList};
-use heap_model::{Call, Reply};
+use machine_model::{Call, Reply};
 use std::alloc::{AllocError, Global};
 use std::marker::Model;
 

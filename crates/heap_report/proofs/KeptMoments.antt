@@ -2,12 +2,12 @@
 use Rattle.std.proofs.Common.{◌≡◌, ◌<◌, ℕ, zero, suc, ◌+◌, ◌*◌, ◌%◌, ◌^◌, List, [], ◌∷◌, ◌++◌, length, length-append, map, Option, Some, None, refl, sym, ◌∙◌, ap, arith}
 use Rattle.std.specs.Prelude.{slice_get, sum}
 use Rattle.heap_history.specs.declared.history.Moment.{Moment}
-use Rattle.heap_model.specs.declared.answer.Answer.{Answer}
-use Rattle.heap_model.specs.declared.call.Call.{Call}
-use Rattle.heap_model.specs.declared.region.Region.{Region}
-use Rattle.heap_model.specs.State.{State, start, total_pages}
-use Rattle.heap_model.specs.Answer.{IsAllowed, NewPages, after, changed, new_pages, slots_of, with_regions}
-use Rattle.heap_model.specs.Run.{IsAllowedRun}
+use Rattle.machine_model.specs.declared.answer.Answer.{Answer}
+use Rattle.machine_model.specs.declared.call.Call.{Call}
+use Rattle.machine_model.specs.declared.region.Region.{Region}
+use Rattle.machine_model.specs.State.{State, start, total_pages}
+use Rattle.machine_model.specs.Answer.{IsAllowed, NewPages, after, changed, new_pages, slots_of, with_regions}
+use Rattle.machine_model.specs.Run.{IsAllowedRun}
 use Rattle.heap_recorder.proofs.KeptHeap.{changed_heap}
 use Rattle.heap_recorder.specs.Run.{Notes, nothing, noted, notes_from, bytes_after}
 use Rattle.heap_recorder.specs.Shown.{state_after}

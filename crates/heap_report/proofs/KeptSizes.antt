@@ -3,16 +3,16 @@ use Rattle.std.proofs.Common.{◌≡◌, ◌-◌, ℕ, List, [], ◌∷◌, Bool
 use Rattle.std.proofs.lemmas.List.{map-append, map-set}
 use Rattle.std.proofs.Math.Seq.{map-set_same}
 use Rattle.std.specs.Prelude.{nat_le, if◌then◌else◌}
-use Rattle.heap_model.specs.declared.answer.Answer.{Answer}
-use Rattle.heap_model.specs.declared.answer.Reply.{Reply}
-use Rattle.heap_model.specs.declared.answer.Reply.TheVariants.{Block as Placed, Done, Bytes, Byte, Accepted, Released}
-use Rattle.heap_model.specs.declared.call.Call.{Call}
-use Rattle.heap_model.specs.declared.call.Call.TheVariants.{Malloc, Calloc, Realloc, CRealloc, Free, Write, Read, Map, Unmap, Probe, SetGranularity, Reset}
-use Rattle.heap_model.specs.declared.region.Region.{Region}
-use Rattle.heap_model.specs.State.{State, Block, Fresh, Known, block_at}
-use Rattle.heap_model.specs.Refusal.{own_align, least_align}
+use Rattle.machine_model.specs.declared.answer.Answer.{Answer}
+use Rattle.machine_model.specs.declared.answer.Reply.{Reply}
+use Rattle.machine_model.specs.declared.answer.Reply.TheVariants.{Block as Placed, Done, Bytes, Byte, Accepted, Released}
+use Rattle.machine_model.specs.declared.call.Call.{Call}
+use Rattle.machine_model.specs.declared.call.Call.TheVariants.{Malloc, Calloc, Realloc, CRealloc, Free, Write, Read, Map, Unmap, Probe, SetGranularity, Reset}
+use Rattle.machine_model.specs.declared.region.Region.{Region}
+use Rattle.machine_model.specs.State.{State, Block, Fresh, Known, block_at}
+use Rattle.machine_model.specs.Refusal.{own_align, least_align}
 use Rattle.dlmalloc_chunks.specs.Request.{wanted}
-use Rattle.heap_model.specs.Answer.{IsReply, IsAllowed, IsResizing, NewPages, after, all_ended, changed, known_block, new_block, new_pages, resized_block, seen_block, slots_of, with_block, with_regions}
+use Rattle.machine_model.specs.Answer.{IsReply, IsAllowed, IsResizing, NewPages, after, all_ended, changed, known_block, new_block, new_pages, resized_block, seen_block, slots_of, with_block, with_regions}
 use Rattle.heap_report.specs.Live.{block_size, sizes_of}
 use Rattle.heap_recorder.specs.Sizes.{sizes_after}
 

@@ -4,14 +4,14 @@ use Rattle.std.specs.Prelude.{sum}
 use Rattle.dlmalloc.specs.Served.{IsListed as IsListOf}
 use Rattle.dlmalloc.specs.declared.heap.Dlmalloc.{Dlmalloc}
 use Rattle.dlmalloc_chunks.specs.declared.extent.Extent.{Extent}
-use Rattle.heap_model.specs.declared.answer.Answer.{Answer}
-use Rattle.heap_model.specs.declared.answer.Reply.{Reply}
-use Rattle.heap_model.specs.declared.answer.Reply.TheVariants.{Extents as Listing, Refused}
-use Rattle.heap_model.specs.declared.call.Call.TheVariants.{Extents}
-use Rattle.heap_model.specs.declared.region.Region.{Region}
-use Rattle.heap_model.specs.State.{State}
-use Rattle.heap_model.specs.Answer.{IsAllowed, IsReply, after, changed, new_pages, slots_of, with_regions}
-use Rattle.heap_model.specs.Extents.{IsTiling}
+use Rattle.machine_model.specs.declared.answer.Answer.{Answer}
+use Rattle.machine_model.specs.declared.answer.Reply.{Reply}
+use Rattle.machine_model.specs.declared.answer.Reply.TheVariants.{Extents as Listing, Refused}
+use Rattle.machine_model.specs.declared.call.Call.TheVariants.{Extents}
+use Rattle.machine_model.specs.declared.region.Region.{Region}
+use Rattle.machine_model.specs.State.{State}
+use Rattle.machine_model.specs.Answer.{IsAllowed, IsReply, after, changed, new_pages, slots_of, with_regions}
+use Rattle.machine_model.specs.Extents.{IsTiling}
 use Rattle.kernel_heap.specs.declared.machine.Machine.{Machine}
 use Rattle.paged_systems.specs.declared.paged_system.PagedSystem.{PagedSystem}
 use Rattle.kernel_heap.specs.Heap.{word}

@@ -1,12 +1,12 @@
 -- A call that a replay serves.
 use Rattle.std.proofs.Common.{◌≡◌, ◌≤◌, ℕ, max, List, [], ◌∷◌, ◌++◌, map, Option, Some, refl, sym, ◌∙◌, ap, subst, arith}
 use Rattle.std.specs.Prelude.{sum}
-use Rattle.heap_model.specs.declared.answer.Answer.{Answer}
-use Rattle.heap_model.specs.declared.call.Call.{Call}
-use Rattle.heap_model.specs.State.{State, Block}
-use Rattle.heap_model.specs.Answer.{after}
-use Rattle.heap_model.specs.Machine.{IsStep}
-use Rattle.heap_model.specs.Run.{RunsTo}
+use Rattle.machine_model.specs.declared.answer.Answer.{Answer}
+use Rattle.machine_model.specs.declared.call.Call.{Call}
+use Rattle.machine_model.specs.State.{State, Block}
+use Rattle.machine_model.specs.Answer.{after}
+use Rattle.machine_model.specs.Machine.{IsStep}
+use Rattle.machine_model.specs.Run.{RunsTo}
 use Rattle.kernel_heap.specs.declared.machine.Machine.{Machine}
 use Rattle.kernel_heap.specs.Machine.{seen}
 use Rattle.kernel_heap.specs.Steps.{StepsTo}

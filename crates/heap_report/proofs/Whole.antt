@@ -3,12 +3,12 @@ use Rattle.std.proofs.Common.{◌≡◌, ◌≤◌, ◌^◌, ℕ, max, List, [],
 use Rattle.std.proofs.lemmas.List.{append-nil}
 use Rattle.std.specs.Io.KnownBytes.{Appends, IsAtEnd}
 use Rattle.dlmalloc_chunks.specs.declared.extent.Extent.{Extent}
-use Rattle.heap_model.specs.declared.answer.Answer.{Answer}
-use Rattle.heap_model.specs.declared.call.Call.{Call}
-use Rattle.heap_model.specs.declared.call.Call.TheVariants.{Extents}
-use Rattle.heap_model.specs.State.{State}
-use Rattle.heap_model.specs.Run.{RunsTo}
-use Rattle.heap_model.proofs.Runs.{calls_on}
+use Rattle.machine_model.specs.declared.answer.Answer.{Answer}
+use Rattle.machine_model.specs.declared.call.Call.{Call}
+use Rattle.machine_model.specs.declared.call.Call.TheVariants.{Extents}
+use Rattle.machine_model.specs.State.{State}
+use Rattle.machine_model.specs.Run.{RunsTo}
+use Rattle.machine_model.proofs.Runs.{calls_on}
 use Rattle.kernel_heap.specs.declared.machine.Machine.{Machine}
 use Rattle.kernel_heap.specs.Steps.{StepsTo}
 use Rattle.kernel_heap.proofs.Steps.{calls_steps_on}

@@ -1,7 +1,7 @@
 -- The calls of an input that is replayed.
 use Rattle.std.specs.Prelude.{ℕ, List, [], ◌∷◌, ◌++◌, Option, Some, None}
-use Rattle.heap_model.specs.declared.call.Call.{Call}
-use Rattle.heap_model.specs.declared.call.Call.TheVariants.{Extents}
+use Rattle.machine_model.specs.declared.call.Call.{Call}
+use Rattle.machine_model.specs.declared.call.Call.TheVariants.{Extents}
 use Rattle.heap_program.specs.Lines.{items_of}
 
 -- the calls among items; bad lines are passed over

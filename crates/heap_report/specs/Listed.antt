@@ -1,12 +1,12 @@
 -- The end of a replay, with the extents.
 use Rattle.std.specs.Prelude.{◌≡◌, ◌≤◌, max, List, [], ◌∷◌, ◌++◌, Some}
 use Rattle.dlmalloc_chunks.specs.declared.extent.Extent.{Extent}
-use Rattle.heap_model.specs.declared.answer.Answer.{Answer}
-use Rattle.heap_model.specs.declared.answer.Reply.TheVariants.{Extents as Listing}
-use Rattle.heap_model.specs.declared.call.Call.TheVariants.{Extents}
-use Rattle.heap_model.specs.Extents.{IsTiling}
-use Rattle.heap_model.specs.State.{State}
-use Rattle.heap_model.specs.Run.{RunsTo}
+use Rattle.machine_model.specs.declared.answer.Answer.{Answer}
+use Rattle.machine_model.specs.declared.answer.Reply.TheVariants.{Extents as Listing}
+use Rattle.machine_model.specs.declared.call.Call.TheVariants.{Extents}
+use Rattle.machine_model.specs.Extents.{IsTiling}
+use Rattle.machine_model.specs.State.{State}
+use Rattle.machine_model.specs.Run.{RunsTo}
 use Rattle.kernel_heap.specs.Steps.{StepsTo}
 use Rattle.heap_program.specs.Progress.{IsAt}
 use Rattle.heap_report.specs.declared.listed.Listed.{Listed}

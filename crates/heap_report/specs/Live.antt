@@ -1,9 +1,9 @@
 -- The bytes that are live in a state, and were at most in a run.
 use Rattle.std.specs.Prelude.{ℕ, max, sum, List, [], ◌∷◌, map, Option, Some, None}
-use Rattle.heap_model.specs.declared.answer.Answer.{Answer}
-use Rattle.heap_model.specs.declared.call.Call.{Call}
-use Rattle.heap_model.specs.State.{State, Block}
-use Rattle.heap_model.specs.Answer.{after}
+use Rattle.machine_model.specs.declared.answer.Answer.{Answer}
+use Rattle.machine_model.specs.declared.call.Call.{Call}
+use Rattle.machine_model.specs.State.{State, Block}
+use Rattle.machine_model.specs.Answer.{after}
 
 -- the size of a live block, and 0 of one that has ended
 abbrev pub block_size : Option Block → ℕ

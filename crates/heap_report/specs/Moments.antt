@@ -1,11 +1,11 @@
 -- The moments of a run are those of its states.
 use Rattle.std.specs.Prelude.{◌≡◌, ◌<◌, ℕ, suc, ◌*◌, ◌%◌, ◌^◌, List, length, map, slice_get, Some}
 use Rattle.heap_history.specs.declared.history.Moment.{Moment}
-use Rattle.heap_model.specs.declared.answer.Answer.{Answer}
-use Rattle.heap_model.specs.declared.call.Call.{Call}
-use Rattle.heap_model.specs.declared.config.Config.{Config}
-use Rattle.heap_model.specs.Run.{IsAllowedRun}
-use Rattle.heap_model.specs.State.{State, start, total_pages}
+use Rattle.machine_model.specs.declared.answer.Answer.{Answer}
+use Rattle.machine_model.specs.declared.call.Call.{Call}
+use Rattle.machine_model.specs.declared.config.Config.{Config}
+use Rattle.machine_model.specs.Run.{IsAllowedRun}
+use Rattle.machine_model.specs.State.{State, start, total_pages}
 use Rattle.heap_recorder.specs.Run.{history_of}
 use Rattle.heap_recorder.specs.Shown.{state_after}
 use Rattle.heap_report.specs.Live.{live}

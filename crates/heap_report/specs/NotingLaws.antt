@@ -1,9 +1,9 @@
 -- Laws of replays of which something is kept, one after another.
 use Rattle.std.proofs.Common.{◌≡◌, ℕ, List, [], ◌∷◌, ◌++◌, Option, Some, None, refl, sym, ap, subst, append_assoc, arith}
 use Rattle.std.proofs.lemmas.List.{append-nil}
-use Rattle.heap_model.specs.declared.answer.Answer.{Answer}
-use Rattle.heap_model.specs.declared.call.Call.{Call}
-use Rattle.heap_model.proofs.Runs.{runs_none, calls_on}
+use Rattle.machine_model.specs.declared.answer.Answer.{Answer}
+use Rattle.machine_model.specs.declared.call.Call.{Call}
+use Rattle.machine_model.proofs.Runs.{runs_none, calls_on}
 use Rattle.kernel_heap.proofs.Steps.{calls_steps_on}
 use Rattle.heap_report.specs.declared.noted.Noted.{Noted}
 use Rattle.heap_report.specs.Calls.{calls_in}

@@ -1,9 +1,9 @@
 -- How a replay goes on.
 use Rattle.std.specs.Prelude.{◌≡◌, max, sum, List, [], map, Some}
-use Rattle.heap_model.specs.declared.answer.Answer.{Answer}
-use Rattle.heap_model.specs.declared.call.Call.{Call}
-use Rattle.heap_model.specs.State.{State}
-use Rattle.heap_model.specs.Run.{RunsTo}
+use Rattle.machine_model.specs.declared.answer.Answer.{Answer}
+use Rattle.machine_model.specs.declared.call.Call.{Call}
+use Rattle.machine_model.specs.State.{State}
+use Rattle.machine_model.specs.Run.{RunsTo}
 use Rattle.kernel_heap.specs.declared.machine.Machine.{Machine}
 use Rattle.kernel_heap.specs.Steps.{HasStepped, StepsTo}
 use Rattle.heap_program.specs.Progress.{IsAt}

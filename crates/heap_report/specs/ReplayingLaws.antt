@@ -1,10 +1,10 @@
 -- The peak of runs, one after another.
 use Rattle.std.proofs.Common.{◌≡◌, ◌≤◌, max, List, [], ◌∷◌, ◌++◌, map, Some, ap, arith}
-use Rattle.heap_model.specs.declared.answer.Answer.{Answer}
-use Rattle.heap_model.specs.declared.call.Call.{Call}
-use Rattle.heap_model.specs.State.{State}
-use Rattle.heap_model.specs.Answer.{after}
-use Rattle.heap_model.specs.Run.{RunsTo}
+use Rattle.machine_model.specs.declared.answer.Answer.{Answer}
+use Rattle.machine_model.specs.declared.call.Call.{Call}
+use Rattle.machine_model.specs.State.{State}
+use Rattle.machine_model.specs.Answer.{after}
+use Rattle.machine_model.specs.Run.{RunsTo}
 use Rattle.heap_report.specs.Live.{live, peak}
 
 -- the peak is at least what is live at the start

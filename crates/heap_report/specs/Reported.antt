@@ -2,12 +2,12 @@
 use Rattle.std.specs.Prelude.{◌≡◌, ◌≤◌, ◌^◌, ◌+◌, ◌⊎◌, ℕ, List, [], ◌++◌, length, map, Option, Some}
 use Rattle.std.specs.Io.KnownBytes.{Appends, Consumes}
 use Rattle.dlmalloc_chunks.specs.declared.extent.Extent.{Extent}
-use Rattle.heap_model.specs.declared.answer.Answer.{Answer}
-use Rattle.heap_model.specs.declared.call.Call.{Call}
-use Rattle.heap_model.specs.Extents.{IsTiling}
-use Rattle.heap_model.specs.State.{State}
-use Rattle.heap_model.specs.Run.{IsGood, RunsTo}
-use Rattle.heap_model.specs.Machine.{Stands}
+use Rattle.machine_model.specs.declared.answer.Answer.{Answer}
+use Rattle.machine_model.specs.declared.call.Call.{Call}
+use Rattle.machine_model.specs.Extents.{IsTiling}
+use Rattle.machine_model.specs.State.{State}
+use Rattle.machine_model.specs.Run.{IsGood, RunsTo}
+use Rattle.machine_model.specs.Machine.{Stands}
 use Rattle.kernel_heap.specs.declared.machine.Machine.{Machine}
 use Rattle.kernel_heap.specs.Machine.{seen}
 use Rattle.kernel_heap.specs.Steps.{StepsTo}

@@ -1,8 +1,8 @@
 -- What a command does that replays its input and tells of the end of that run.
 use Rattle.std.specs.Prelude.{◌≡◌, ◌≤◌, ◌<◌, ◌+◌, ◌^◌, ◌⊎◌, ◌↔◌, ℕ, List, [], length, unwrap_or, Option, Some, None, IsSome, IfSome}
 use Rattle.std.specs.Io.KnownBytes.{Appends}
-use Rattle.heap_model.specs.State.{start}
-use Rattle.heap_model.specs.declared.config.Config.{Config}
+use Rattle.machine_model.specs.State.{start}
+use Rattle.machine_model.specs.declared.config.Config.{Config}
 use Rattle.kernel_heap.specs.declared.machine.Machine.{Machine}
 use Rattle.kernel_heap.specs.Config.{IsGoodConfig}
 use Rattle.kernel_heap.specs.Steps.{IsNewMachine}

@@ -1,7 +1,7 @@
 // The end of a replay, with the extents.
 ghost use Rattle.std.specs.Prelude.{◌≡◌, List, IfOk};
 ghost use Rattle.dlmalloc_chunks.specs.declared.extent.Extent.{Extent};
-ghost use Rattle.heap_model.specs.declared.answer.Reply.TheVariants.{Extents};
+ghost use Rattle.machine_model.specs.declared.answer.Reply.TheVariants.{Extents};
 ghost use Rattle.heap_report.specs.Listed.{IsListedByReplay};
 
 use crate::replay::Replay;

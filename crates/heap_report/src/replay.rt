@@ -2,9 +2,9 @@
 ghost use Rattle.std.specs.Prelude.{IfOk};
 ghost use Rattle.heap_report.specs.Replaying.{IsCallAnswered, IsReplayBegun};
 
-use heap_figures::BlockSizes;
 use heap_recorder::note_answer;
 use kernel_heap::{Answer, Call, Machine};
+use run_figures::BlockSizes;
 use std::alloc::{AllocError, Global};
 
 /// A machine, with the sizes of its live blocks, whose sum and greatest sum are kept. No answer is.

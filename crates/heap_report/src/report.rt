@@ -7,9 +7,9 @@ ghost use Rattle.heap_report.specs.Telling.{Tells};
 use crate::reported::Reported;
 use crate::tell::{Tell, tell_main};
 use command_line::Command;
-use heap_figures::push_figures;
 use heap_program::{Sink, Source};
 use kernel_heap::{Answer, Call, Extent, Machine};
+use run_figures::push_figures;
 use std::alloc::{AllocError, Global};
 
 /// The figures of a run as its text, a line each.
@@ -43,7 +43,7 @@ impl Tell for Figures {
 }
 
 /// Replays the calls of the source, asks for the extents, and writes the figures of the end of that run
-/// (`heap_figures::push_figures`). Words, lines and statuses are those of [`tell_main`].
+/// (`run_figures::push_figures`). Words, lines and statuses are those of [`tell_main`].
 pub fn report_main<S: Source, K: Sink>(
     alloc: Global,
     words: &[String],

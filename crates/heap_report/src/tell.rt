@@ -3,9 +3,9 @@ ghost use Rattle.std.specs.Prelude.{◌≡◌, ◌≢◌, ◌≤◌, ◌<◌, �
 ghost use Rattle.std.specs.Io.KnownBytes.{Appends};
 ghost use Rattle.dlmalloc_chunks.specs.declared.extent.Extent.{Extent};
 ghost use Rattle.dlmalloc_chunks.specs.Tiling.{AreInSegments};
-ghost use Rattle.heap_model.specs.declared.answer.Answer.{Answer};
-ghost use Rattle.heap_model.specs.declared.call.Call.{Call};
-ghost use Rattle.heap_model.specs.State.{State};
+ghost use Rattle.machine_model.specs.declared.answer.Answer.{Answer};
+ghost use Rattle.machine_model.specs.declared.call.Call.{Call};
+ghost use Rattle.machine_model.specs.State.{State};
 ghost use Rattle.kernel_heap.specs.declared.machine.Machine.{Machine};
 ghost use Rattle.heap_program.specs.Faults.{HasRisen};
 ghost use Rattle.heap_program.specs.Progress.{IsAt};

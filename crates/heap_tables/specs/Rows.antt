@@ -2,7 +2,7 @@
 use Rattle.std.specs.Prelude.{ℕ, zero, suc, ◌+◌, ◌-◌, ◌*◌, ◌/◌, max, Bool, nat_eq, List, [], ◌++◌, codes, if◌then◌else◌}
 use Rattle.paging_core.specs.declared.page_table.PageBits.{PageBits}
 use Rattle.paging_core.specs.declared.page_table.Rights.{Rights}
-use Rattle.heap_lines.specs.Written.{rights_word}
+use Rattle.call_lines.specs.Written.{rights_word}
 use Rattle.heap_map.specs.Words.{hexadecimal, commas, quantity}
 use Rattle.heap_map.specs.Shapes.{text_at, rect, titled}
 use Rattle.heap_tables.specs.declared.lines.Line.{Line}

@@ -4,7 +4,7 @@ ghost use Rattle.heap_tables.specs.Rows.{rights_in, line_pages, is_table, has_la
 
 use crate::lines::Line;
 use crate::owners::{Owner, address_of};
-use heap_lines::push_rights;
+use call_lines::push_rights;
 use heap_map::{Area, push_address, push_commas, push_counted, push_rect, push_text, push_titled};
 use paging_core::{PageBits, Rights};
 use std::alloc::{AllocError, Global};

@@ -8,18 +8,18 @@ use Rattle.dlmalloc.specs.declared.heap.Dlmalloc.{Dlmalloc}
 use Rattle.dlmalloc.specs.Blocks.{ArePlaced}
 use Rattle.dlmalloc.specs.Served.{OnlyBlocksChange}
 use Rattle.sound_heap.specs.Heap.{AreInBlock}
-use Rattle.heap_model.specs.declared.live.Live.{Live}
-use Rattle.heap_model.specs.declared.call.Call.TheVariants.{Write, Read}
-use Rattle.heap_model.specs.declared.answer.Reply.TheVariants.{Done, Bytes}
-use Rattle.heap_model.specs.State.{State, Block, block_at, cell_at, is_within, Known}
-use Rattle.heap_model.specs.Memory.{IsPut}
-use Rattle.heap_model.specs.Answer.{AreBytes}
-use Rattle.heap_model.specs.Refusal.{refuse_bytes}
-use Rattle.heap_model.specs.Run.{IsGood}
-use Rattle.heap_model.specs.Machine.{Paged, Seen, Stands, IsStep, outline}
-use Rattle.heap_model.proofs.Placed.{outline_at}
-use Rattle.heap_model.proofs.Known.{good_known}
-use Rattle.heap_model.proofs.Written.{stands_written}
+use Rattle.machine_model.specs.declared.live.Live.{Live}
+use Rattle.machine_model.specs.declared.call.Call.TheVariants.{Write, Read}
+use Rattle.machine_model.specs.declared.answer.Reply.TheVariants.{Done, Bytes}
+use Rattle.machine_model.specs.State.{State, Block, block_at, cell_at, is_within, Known}
+use Rattle.machine_model.specs.Memory.{IsPut}
+use Rattle.machine_model.specs.Answer.{AreBytes}
+use Rattle.machine_model.specs.Refusal.{refuse_bytes}
+use Rattle.machine_model.specs.Run.{IsGood}
+use Rattle.machine_model.specs.Machine.{Paged, Seen, Stands, IsStep, outline}
+use Rattle.machine_model.proofs.Placed.{outline_at}
+use Rattle.machine_model.proofs.Known.{good_known}
+use Rattle.machine_model.proofs.Written.{stands_written}
 use Rattle.paged_systems.specs.Follows.{still_none}
 use Rattle.paged_systems.specs.Words.{heap_regions}
 use Rattle.paged_systems.specs.System.{paged}

@@ -1,12 +1,12 @@
 -- Calls, one after the other.
 use Rattle.std.proofs.Common.{List, [], ◌∷◌, ◌++◌, Some, refl}
-use Rattle.heap_model.specs.declared.call.Call.{Call}
-use Rattle.heap_model.specs.declared.answer.Answer.{Answer}
-use Rattle.heap_model.specs.declared.config.Config.{Config}
-use Rattle.heap_model.specs.State.{start}
-use Rattle.heap_model.specs.Answer.{after}
-use Rattle.heap_model.specs.Run.{RunsTo}
-use Rattle.heap_model.proofs.Runs.{runs_none, calls_on}
+use Rattle.machine_model.specs.declared.call.Call.{Call}
+use Rattle.machine_model.specs.declared.answer.Answer.{Answer}
+use Rattle.machine_model.specs.declared.config.Config.{Config}
+use Rattle.machine_model.specs.State.{start}
+use Rattle.machine_model.specs.Answer.{after}
+use Rattle.machine_model.specs.Run.{RunsTo}
+use Rattle.machine_model.proofs.Runs.{runs_none, calls_on}
 use Rattle.kernel_heap.specs.Runs.{AreServed}
 use Rattle.kernel_heap.specs.Steps.{IsNewMachine, HasStepped}
 use Rattle.kernel_heap.specs.declared.machine.Machine.{Machine}

@@ -9,24 +9,24 @@ use Rattle.dlmalloc.specs.Released.{handed_out, taken_back, releases, left_by_co
 use Rattle.dlmalloc.specs.Trimmed.{cut_of, end_released, cut_off, is_cut, is_trimmed, trim_releases}
 use Rattle.dlmalloc.specs.AfterFree.{is_above_check, free_releases, IsFreed}
 use Rattle.dlmalloc.specs.declared.heap.Dlmalloc.{Dlmalloc}
-use Rattle.heap_model.specs.declared.live.Live.{Live}
-use Rattle.heap_model.specs.declared.region.Region.{Region}
-use Rattle.heap_model.specs.declared.call.Call.TheVariants.{Free}
-use Rattle.heap_model.specs.declared.answer.Reply.TheVariants.{Done}
-use Rattle.heap_model.specs.State.{State, Block, block_at, cover, is_within, total_pages}
-use Rattle.heap_model.specs.Place.{meets_any}
-use Rattle.heap_model.specs.Memory.{HoldsBytes}
-use Rattle.heap_model.specs.Refusal.{refuse_block}
-use Rattle.heap_model.specs.Answer.{without_block}
-use Rattle.heap_model.specs.Cut.{AreCut}
-use Rattle.heap_model.specs.Run.{IsGood, IsHeapRegion}
-use Rattle.heap_model.specs.Machine.{Paged, Seen, Stands, IsStep, outline}
-use Rattle.heap_model.proofs.Cut.{none_cut}
-use Rattle.heap_model.proofs.Known.{known_within}
-use Rattle.heap_model.proofs.Placed.{outline_of}
-use Rattle.heap_model.proofs.Ended.{left_at, outline_left, good_ended}
-use Rattle.heap_model.proofs.Shortened.{none_gone, good_cut}
-use Rattle.heap_model.proofs.Slots.{settled_same}
+use Rattle.machine_model.specs.declared.live.Live.{Live}
+use Rattle.machine_model.specs.declared.region.Region.{Region}
+use Rattle.machine_model.specs.declared.call.Call.TheVariants.{Free}
+use Rattle.machine_model.specs.declared.answer.Reply.TheVariants.{Done}
+use Rattle.machine_model.specs.State.{State, Block, block_at, cover, is_within, total_pages}
+use Rattle.machine_model.specs.Place.{meets_any}
+use Rattle.machine_model.specs.Memory.{HoldsBytes}
+use Rattle.machine_model.specs.Refusal.{refuse_block}
+use Rattle.machine_model.specs.Answer.{without_block}
+use Rattle.machine_model.specs.Cut.{AreCut}
+use Rattle.machine_model.specs.Run.{IsGood, IsHeapRegion}
+use Rattle.machine_model.specs.Machine.{Paged, Seen, Stands, IsStep, outline}
+use Rattle.machine_model.proofs.Cut.{none_cut}
+use Rattle.machine_model.proofs.Known.{known_within}
+use Rattle.machine_model.proofs.Placed.{outline_of}
+use Rattle.machine_model.proofs.Ended.{left_at, outline_left, good_ended}
+use Rattle.machine_model.proofs.Shortened.{none_gone, good_cut}
+use Rattle.machine_model.proofs.Slots.{settled_same}
 use Rattle.paged_systems.specs.System.{paged, pageless_frames}
 use Rattle.kernel_heap.specs.Moves.{marks_of, AreRegionsTold}
 use Rattle.paged_systems.specs.Words.{heap_regions}

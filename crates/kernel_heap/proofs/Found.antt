@@ -13,31 +13,31 @@ use Rattle.dlmalloc_chunks.specs.Request.{round_up}
 use Rattle.dlmalloc.specs.Blocks.{IsFull}
 use Rattle.dlmalloc.specs.Requested.{IsFound}
 use Rattle.dlmalloc.specs.declared.heap.Dlmalloc.{Dlmalloc}
-use Rattle.heap_model.specs.declared.live.Live.{Live}
-use Rattle.heap_model.specs.declared.region.Region.{Region}
-use Rattle.heap_model.specs.declared.call.Call.{Call}
-use Rattle.heap_model.specs.declared.answer.Reply.TheVariants.{Block as Placed}
-use Rattle.heap_model.specs.Request.{pages_in, pages_for}
-use Rattle.heap_model.specs.State.{State, Block, block_at, cover, is_within, total_pages}
-use Rattle.heap_model.specs.Tables.{has_table, missing, free_frames}
-use Rattle.heap_model.specs.Slots.{slot_number, slot_prefix, listed_slots}
-use Rattle.heap_model.specs.Place.{meets, meets_any, with_region, all_regions, IsPlace}
-use Rattle.heap_model.specs.Room.{heap_rights, heap_region, IsGrowth}
-use Rattle.heap_model.specs.Cut.{AreCut}
-use Rattle.heap_model.specs.Memory.{HoldsBytes}
-use Rattle.heap_model.specs.Refusal.{must_refuse, wanted_by}
-use Rattle.heap_model.specs.Answer.{changed, with_regions, is_new, NewPages, granted_pages, new_pages, slots_of, heap_after, IsCallServed}
-use Rattle.heap_model.specs.Run.{IsGood, IsHeapRegion}
-use Rattle.heap_model.specs.Machine.{Paged, Seen, Stands, IsStep, OnlyHeapBytesChange, outline}
-use Rattle.heap_model.proofs.Added.{missing_same}
-use Rattle.heap_model.proofs.Booleans.{neither_or}
-use Rattle.heap_model.proofs.Cut.{none_cut}
-use Rattle.heap_model.proofs.Granted.{granted, clear_of, good_granted, AllStart, all_start, none_new, no_start, stands_granted}
-use Rattle.heap_model.proofs.Moved.{stands_moved, good_bare, holds_none}
-use Rattle.heap_model.proofs.Regions.{length_with, all_with, beside, not_within, find_none}
-use Rattle.heap_model.proofs.NewSlots.{slots_listed, allowed_slots, slots_bare, placed_none, placed_some}
-use Rattle.heap_model.proofs.Shortened.{none_gone, good_cut, none_new_left, new_left}
-use Rattle.heap_model.proofs.Slots.{settled_same}
+use Rattle.machine_model.specs.declared.live.Live.{Live}
+use Rattle.machine_model.specs.declared.region.Region.{Region}
+use Rattle.machine_model.specs.declared.call.Call.{Call}
+use Rattle.machine_model.specs.declared.answer.Reply.TheVariants.{Block as Placed}
+use Rattle.machine_model.specs.Request.{pages_in, pages_for}
+use Rattle.machine_model.specs.State.{State, Block, block_at, cover, is_within, total_pages}
+use Rattle.machine_model.specs.Tables.{has_table, missing, free_frames}
+use Rattle.machine_model.specs.Slots.{slot_number, slot_prefix, listed_slots}
+use Rattle.machine_model.specs.Place.{meets, meets_any, with_region, all_regions, IsPlace}
+use Rattle.machine_model.specs.Room.{heap_rights, heap_region, IsGrowth}
+use Rattle.machine_model.specs.Cut.{AreCut}
+use Rattle.machine_model.specs.Memory.{HoldsBytes}
+use Rattle.machine_model.specs.Refusal.{must_refuse, wanted_by}
+use Rattle.machine_model.specs.Answer.{changed, with_regions, is_new, NewPages, granted_pages, new_pages, slots_of, heap_after, IsCallServed}
+use Rattle.machine_model.specs.Run.{IsGood, IsHeapRegion}
+use Rattle.machine_model.specs.Machine.{Paged, Seen, Stands, IsStep, OnlyHeapBytesChange, outline}
+use Rattle.machine_model.proofs.Added.{missing_same}
+use Rattle.machine_model.proofs.Booleans.{neither_or}
+use Rattle.machine_model.proofs.Cut.{none_cut}
+use Rattle.machine_model.proofs.Granted.{granted, clear_of, good_granted, AllStart, all_start, none_new, no_start, stands_granted}
+use Rattle.machine_model.proofs.Moved.{stands_moved, good_bare, holds_none}
+use Rattle.machine_model.proofs.Regions.{length_with, all_with, beside, not_within, find_none}
+use Rattle.machine_model.proofs.NewSlots.{slots_listed, allowed_slots, slots_bare, placed_none, placed_some}
+use Rattle.machine_model.proofs.Shortened.{none_gone, good_cut, none_new_left, new_left}
+use Rattle.machine_model.proofs.Slots.{settled_same}
 use Rattle.mapped_regions.specs.Regions.{AreLaid}
 use Rattle.mapped_regions.specs.Mapped.{AreRunsUsed}
 use Rattle.paged_systems.specs.Layout.{IsGrantedFor}

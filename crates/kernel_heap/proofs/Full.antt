@@ -6,14 +6,14 @@ use Rattle.dlmalloc_chunks.specs.declared.extent.Extent.{Extent}
 use Rattle.dlmalloc.specs.State.{Segment}
 use Rattle.dlmalloc.specs.Blocks.{IsMet, IsFull}
 use Rattle.dlmalloc.specs.declared.heap.Dlmalloc.{Dlmalloc}
-use Rattle.heap_model.specs.declared.live.Live.{Live}
-use Rattle.heap_model.specs.declared.region.Region.{Region}
-use Rattle.heap_model.specs.State.{State, Block, block_at}
-use Rattle.heap_model.specs.Room.{HasRoom}
-use Rattle.heap_model.specs.Run.{IsGood}
-use Rattle.heap_model.specs.Machine.{Stands, outline}
-use Rattle.heap_model.proofs.Booleans.{or_cases}
-use Rattle.heap_model.proofs.Placed.{behind_outline, outline_at}
+use Rattle.machine_model.specs.declared.live.Live.{Live}
+use Rattle.machine_model.specs.declared.region.Region.{Region}
+use Rattle.machine_model.specs.State.{State, Block, block_at}
+use Rattle.machine_model.specs.Room.{HasRoom}
+use Rattle.machine_model.specs.Run.{IsGood}
+use Rattle.machine_model.specs.Machine.{Stands, outline}
+use Rattle.machine_model.proofs.Booleans.{or_cases}
+use Rattle.machine_model.proofs.Placed.{behind_outline, outline_at}
 use Rattle.paged_systems.specs.Words.{heap_regions, grant_of}
 use Rattle.paged_systems.specs.System.{paged}
 use Rattle.kernel_heap.specs.Heap.{heap_state}

@@ -14,20 +14,20 @@ use Rattle.dlmalloc.specs.State.{extents_in}
 use Rattle.dlmalloc.specs.Blocks.{ArePlaced, BlocksAreApart}
 use Rattle.dlmalloc.specs.Requested.{asked, IsFound, IsHandedOut}
 use Rattle.dlmalloc.specs.declared.heap.Dlmalloc.{Dlmalloc}
-use Rattle.heap_model.specs.declared.live.Live.{Live}
-use Rattle.heap_model.specs.declared.region.Region.{Region}
-use Rattle.heap_model.specs.declared.call.Call.TheVariants.{Malloc, Calloc}
-use Rattle.heap_model.specs.declared.answer.Reply.TheVariants.{Block as Placed}
-use Rattle.heap_model.specs.State.{State, Cell, Fresh, Known, Block, block_at, is_within}
-use Rattle.heap_model.specs.Place.{meets_any}
-use Rattle.heap_model.specs.Memory.{HoldsBytes}
-use Rattle.heap_model.specs.Refusal.{refuse_request}
-use Rattle.heap_model.specs.Run.{IsGood}
-use Rattle.heap_model.specs.Machine.{Seen, Stands, IsStep, outline}
-use Rattle.heap_model.specs.Room.{IsGrowth}
-use Rattle.heap_model.proofs.Known.{known_within}
-use Rattle.heap_model.proofs.Shortened.{good_there, good_over}
-use Rattle.heap_model.proofs.Placed.{outline_of, outline_push, length_outline, known_alike, holds_pushed, good_placed}
+use Rattle.machine_model.specs.declared.live.Live.{Live}
+use Rattle.machine_model.specs.declared.region.Region.{Region}
+use Rattle.machine_model.specs.declared.call.Call.TheVariants.{Malloc, Calloc}
+use Rattle.machine_model.specs.declared.answer.Reply.TheVariants.{Block as Placed}
+use Rattle.machine_model.specs.State.{State, Cell, Fresh, Known, Block, block_at, is_within}
+use Rattle.machine_model.specs.Place.{meets_any}
+use Rattle.machine_model.specs.Memory.{HoldsBytes}
+use Rattle.machine_model.specs.Refusal.{refuse_request}
+use Rattle.machine_model.specs.Run.{IsGood}
+use Rattle.machine_model.specs.Machine.{Seen, Stands, IsStep, outline}
+use Rattle.machine_model.specs.Room.{IsGrowth}
+use Rattle.machine_model.proofs.Known.{known_within}
+use Rattle.machine_model.proofs.Shortened.{good_there, good_over}
+use Rattle.machine_model.proofs.Placed.{outline_of, outline_push, length_outline, known_alike, holds_pushed, good_placed}
 use Rattle.paged_systems.specs.System.{paged}
 use Rattle.kernel_heap.specs.Moves.{marks_of, AreRegionsTold, AreSlotsTold}
 use Rattle.paged_systems.specs.Words.{heap_regions}

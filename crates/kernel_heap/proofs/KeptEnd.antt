@@ -10,12 +10,12 @@ use Rattle.dlmalloc.specs.Released.{handed_out, taken_back, releases, left_by_co
 use Rattle.dlmalloc.specs.Trimmed.{cut_of, shortened, takes_end, is_trimmed, trimmed, trim_releases}
 use Rattle.dlmalloc.specs.AfterFree.{is_above_check, after_free, free_releases}
 use Rattle.dlmalloc.specs.declared.heap.Dlmalloc.{Dlmalloc}
-use Rattle.heap_model.specs.declared.region.Region.{Region}
-use Rattle.heap_model.specs.State.{is_within}
-use Rattle.heap_model.specs.Place.{meets, meets_any}
-use Rattle.heap_model.specs.Machine.{Paged}
-use Rattle.heap_model.proofs.Booleans.{or_left, or_right, or_cases}
-use Rattle.heap_model.proofs.Regions.{within_bounds, meets_true}
+use Rattle.machine_model.specs.declared.region.Region.{Region}
+use Rattle.machine_model.specs.State.{is_within}
+use Rattle.machine_model.specs.Place.{meets, meets_any}
+use Rattle.machine_model.specs.Machine.{Paged}
+use Rattle.machine_model.proofs.Booleans.{or_left, or_right, or_cases}
+use Rattle.machine_model.proofs.Regions.{within_bounds, meets_true}
 use Rattle.paged_systems.specs.System.{paged}
 use Rattle.paged_systems.specs.Words.{heap_regions}
 use Rattle.kernel_heap.specs.Heap.{regions, word, heap_state}

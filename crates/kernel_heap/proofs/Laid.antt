@@ -13,10 +13,10 @@ use Rattle.dlmalloc.specs.Freed.{freed}
 use Rattle.dlmalloc.specs.declared.heap.Dlmalloc.{Dlmalloc}
 use Rattle.dlmalloc.specs.declared.malloc_error.MallocError.{MallocError}
 use Rattle.sound_heap.specs.Heap.{IsIntact}
-use Rattle.heap_model.specs.declared.live.Live.{Live}
-use Rattle.heap_model.proofs.Placed.{appended, stays, last_at}
-use Rattle.heap_model.proofs.Ended.{left_at}
-use Rattle.heap_model.proofs.Resized.{replaced_at, replaced_stays, replaced_here}
+use Rattle.machine_model.specs.declared.live.Live.{Live}
+use Rattle.machine_model.proofs.Placed.{appended, stays, last_at}
+use Rattle.machine_model.proofs.Ended.{left_at}
+use Rattle.machine_model.proofs.Resized.{replaced_at, replaced_stays, replaced_here}
 use Rattle.paged_systems.specs.Beside.{KeepsHeapWords}
 use Rattle.paged_systems.specs.Words.{heap_regions, grant_of, grants_of}
 use Rattle.paged_systems.specs.System.{paged}

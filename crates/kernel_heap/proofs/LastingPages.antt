@@ -1,14 +1,14 @@
 -- The pages that an answer maps and that last: none where the call is refused, and none by a call that asks for no page.
 use Rattle.std.proofs.Common.{◌≡◌, List, refl, sym, ap, ◌∙◌, subst, Option, Some, None}
 use Rattle.std.specs.Prelude.{⊤}
-use Rattle.heap_model.specs.declared.region.Region.{Region}
-use Rattle.heap_model.specs.declared.call.Call.{Call}
-use Rattle.heap_model.specs.declared.call.Call.TheVariants.{Malloc, Calloc, Realloc, CRealloc, Free, Write, Read, Map, Unmap, Probe, Trim, SetRate, SetGranularity, Reset, Extents}
-use Rattle.heap_model.specs.declared.answer.Answer.{Answer}
-use Rattle.heap_model.specs.declared.answer.Refusal.{Refusal}
-use Rattle.heap_model.specs.State.{State}
-use Rattle.heap_model.specs.Answer.{new_pages}
-use Rattle.heap_model.specs.Machine.{Paged}
+use Rattle.machine_model.specs.declared.region.Region.{Region}
+use Rattle.machine_model.specs.declared.call.Call.{Call}
+use Rattle.machine_model.specs.declared.call.Call.TheVariants.{Malloc, Calloc, Realloc, CRealloc, Free, Write, Read, Map, Unmap, Probe, Trim, SetRate, SetGranularity, Reset, Extents}
+use Rattle.machine_model.specs.declared.answer.Answer.{Answer}
+use Rattle.machine_model.specs.declared.answer.Refusal.{Refusal}
+use Rattle.machine_model.specs.State.{State}
+use Rattle.machine_model.specs.Answer.{new_pages}
+use Rattle.machine_model.specs.Machine.{Paged}
 use Rattle.kernel_heap.specs.Refusing.{IsRefusal}
 use Rattle.kernel_heap.specs.Kept.{lasting_pages, AreRunsUsedFor}
 use Rattle.kernel_heap.proofs.Refused.{refused_with}

@@ -7,15 +7,15 @@ use Rattle.dlmalloc_chunks.specs.Tiling.{extent_at}
 use Rattle.dlmalloc.specs.Extents.{is_used}
 use Rattle.dlmalloc.specs.State.{HeapState, extents_in, is_free_below_top, is_victim, shown}
 use Rattle.dlmalloc.specs.declared.heap.Dlmalloc.{Dlmalloc}
-use Rattle.heap_model.specs.declared.live.Live.{Live}
-use Rattle.heap_model.specs.declared.region.Region.{Region}
-use Rattle.heap_model.specs.declared.call.Call.TheVariants.{Extents}
-use Rattle.heap_model.specs.declared.answer.Reply.TheVariants.{Extents as Listed}
-use Rattle.heap_model.specs.State.{State, Block, block_at, is_within}
-use Rattle.heap_model.specs.Extents.{AreRuns, HasExtent, IsExtentOfBlock, IsTiling}
-use Rattle.heap_model.specs.Run.{IsGood}
-use Rattle.heap_model.specs.Machine.{Seen, Stands, IsStep, outline}
-use Rattle.heap_model.proofs.Placed.{outline_of}
+use Rattle.machine_model.specs.declared.live.Live.{Live}
+use Rattle.machine_model.specs.declared.region.Region.{Region}
+use Rattle.machine_model.specs.declared.call.Call.TheVariants.{Extents}
+use Rattle.machine_model.specs.declared.answer.Reply.TheVariants.{Extents as Listed}
+use Rattle.machine_model.specs.State.{State, Block, block_at, is_within}
+use Rattle.machine_model.specs.Extents.{AreRuns, HasExtent, IsExtentOfBlock, IsTiling}
+use Rattle.machine_model.specs.Run.{IsGood}
+use Rattle.machine_model.specs.Machine.{Seen, Stands, IsStep, outline}
+use Rattle.machine_model.proofs.Placed.{outline_of}
 use Rattle.kernel_heap.specs.Heap.{regions, word, heap_state}
 use Rattle.dlmalloc.specs.Heap.{IsSound}
 use Rattle.dlmalloc.specs.Served.{IsListed}

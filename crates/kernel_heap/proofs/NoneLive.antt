@@ -1,6 +1,6 @@
 -- Lists of blocks of which none is live.
 use Rattle.std.proofs.Common.{◌≡◌, ℕ, suc, ◌<◌, List, [], ◌∷◌, length, replicate, Option, None, refl, arith}
-use Rattle.heap_model.specs.declared.live.Live.{Live}
+use Rattle.machine_model.specs.declared.live.Live.{Live}
 use Rattle.kernel_heap.specs.Numbered.{live_at}
 
 pub none_live : (xs ys : List (Option Live)) → length xs ≡ length ys → ((k : ℕ) → k < length xs → live_at xs k ≡ None) → xs ≡ replicate (length ys) None

@@ -2,7 +2,7 @@
 use Rattle.std.proofs.Common.{◌≡◌, refl, ap, Bool, true, false, Option, Some, None, option_map, IsSome}
 use Rattle.paging_core.specs.declared.page_table.Rights.{Rights}
 use Rattle.paging_core.specs.declared.processor_access.AccessKind.{AccessKind}
-use Rattle.heap_model.specs.Probe.{is_access_granted}
+use Rattle.machine_model.specs.Probe.{is_access_granted}
 
 -- where an access is granted, a region has the address
 pub granted_there : (rights : Option Rights) (kind : Option (Bool × Rights)) (access : AccessKind) (user : Bool) →

@@ -12,23 +12,23 @@ use Rattle.dlmalloc.specs.Served.{IsDenied, IsMallocRefused, IsRefusedWith}
 use Rattle.dlmalloc.specs.declared.malloc_error.MallocError.{MallocError}
 use Rattle.dlmalloc.specs.declared.malloc_error.MallocError.TheVariants.{TooLarge as MallocTooLarge, System}
 use Rattle.dlmalloc.specs.declared.heap.Dlmalloc.{Dlmalloc}
-use Rattle.heap_model.specs.declared.live.Live.{Live}
-use Rattle.heap_model.specs.declared.region.Region.{Region}
-use Rattle.heap_model.specs.declared.answer.Refusal.{Refusal}
-use Rattle.heap_model.specs.declared.answer.Refusal.TheVariants.{BadAlign, TooLarge, NoSpace, NoFrames}
-use Rattle.heap_model.specs.declared.answer.Reply.TheVariants.{Refused}
-use Rattle.heap_model.specs.declared.answer.Answer.{Answer}
-use Rattle.heap_model.specs.declared.call.Call.{Call}
-use Rattle.heap_model.specs.declared.call.Call.TheVariants.{Malloc, Calloc, Realloc, CRealloc, Free, Write, Read, Map, Unmap, Probe, Trim, SetRate, SetGranularity, Reset, Extents}
-use Rattle.heap_model.specs.Request.{pages_in, pages_for}
-use Rattle.heap_model.specs.State.{State, Block}
-use Rattle.heap_model.specs.Tables.{missing, free_frames}
-use Rattle.heap_model.specs.Place.{all_regions, IsPlace, HasNoPlace}
-use Rattle.heap_model.specs.Refusal.{is_too_large, refuse_request, refuse_resizing, must_refuse, wanted_by, MayRefuse}
-use Rattle.heap_model.specs.Answer.{after}
-use Rattle.heap_model.specs.Run.{IsGood}
-use Rattle.heap_model.specs.Machine.{Seen, Stands, IsStep}
-use Rattle.heap_model.proofs.Added.{missing_same}
+use Rattle.machine_model.specs.declared.live.Live.{Live}
+use Rattle.machine_model.specs.declared.region.Region.{Region}
+use Rattle.machine_model.specs.declared.answer.Refusal.{Refusal}
+use Rattle.machine_model.specs.declared.answer.Refusal.TheVariants.{BadAlign, TooLarge, NoSpace, NoFrames}
+use Rattle.machine_model.specs.declared.answer.Reply.TheVariants.{Refused}
+use Rattle.machine_model.specs.declared.answer.Answer.{Answer}
+use Rattle.machine_model.specs.declared.call.Call.{Call}
+use Rattle.machine_model.specs.declared.call.Call.TheVariants.{Malloc, Calloc, Realloc, CRealloc, Free, Write, Read, Map, Unmap, Probe, Trim, SetRate, SetGranularity, Reset, Extents}
+use Rattle.machine_model.specs.Request.{pages_in, pages_for}
+use Rattle.machine_model.specs.State.{State, Block}
+use Rattle.machine_model.specs.Tables.{missing, free_frames}
+use Rattle.machine_model.specs.Place.{all_regions, IsPlace, HasNoPlace}
+use Rattle.machine_model.specs.Refusal.{is_too_large, refuse_request, refuse_resizing, must_refuse, wanted_by, MayRefuse}
+use Rattle.machine_model.specs.Answer.{after}
+use Rattle.machine_model.specs.Run.{IsGood}
+use Rattle.machine_model.specs.Machine.{Seen, Stands, IsStep}
+use Rattle.machine_model.proofs.Added.{missing_same}
 use Rattle.paged_systems.specs.Words.{heap_regions}
 use Rattle.paged_systems.specs.System.{paged}
 use Rattle.kernel_heap.specs.Heap.{regions, word, follows, refuses, denies, heap_state}

@@ -14,14 +14,14 @@ use Rattle.page_ranges.proofs.Unmapped.{among_is, slot_in, cut_or_not, cut_one, 
 use Rattle.heap_memory.specs.Events.{Event, Granted, Refused, Released}
 use Rattle.heap_memory.specs.Regions.{IsApart}
 use Rattle.heap_memory.specs.Runs.{IsRun, IsWithin}
-use Rattle.heap_model.specs.declared.region.Region.{Region}
-use Rattle.heap_model.specs.State.{end_of_region}
-use Rattle.heap_model.specs.Slots.{IsSlot, slot_number, has_whole, is_whole_in}
-use Rattle.heap_model.specs.Cut.{AreCut}
-use Rattle.heap_model.specs.Machine.{Paged, is_of_user}
-use Rattle.heap_model.proofs.Booleans.{or_cases}
-use Rattle.heap_model.proofs.Settled.{cut_slots}
-use Rattle.heap_model.proofs.Slots.{page_slot, page_number, whole_bounds}
+use Rattle.machine_model.specs.declared.region.Region.{Region}
+use Rattle.machine_model.specs.State.{end_of_region}
+use Rattle.machine_model.specs.Slots.{IsSlot, slot_number, has_whole, is_whole_in}
+use Rattle.machine_model.specs.Cut.{AreCut}
+use Rattle.machine_model.specs.Machine.{Paged, is_of_user}
+use Rattle.machine_model.proofs.Booleans.{or_cases}
+use Rattle.machine_model.proofs.Settled.{cut_slots}
+use Rattle.machine_model.proofs.Slots.{page_slot, page_number, whole_bounds}
 use Rattle.mapped_regions.specs.Regions.{AreLaid}
 use Rattle.mapped_regions.proofs.Laying.{laid_cut}
 use Rattle.mapped_regions.specs.Mapped.{AreGone}

@@ -9,15 +9,15 @@ use Rattle.paging_core.specs.Prefix.{prefix_of}
 use Rattle.paging_core.specs.Walk.{Place, reach, large_of, walk_of}
 use Rattle.paging_core.proofs.Prefixes.{walk_reach}
 use Rattle.paging_core.proofs.Reach.{large_none, table_none, either_way}
-use Rattle.heap_model.specs.declared.region.Region.{Region}
-use Rattle.heap_model.specs.State.{end_of_region, is_within}
-use Rattle.heap_model.specs.Place.{meets, meets_any}
-use Rattle.heap_model.specs.Slots.{IsSlot, slot_number, has_whole, is_whole_in, is_part_in}
-use Rattle.heap_model.specs.Machine.{Paged}
-use Rattle.heap_model.proofs.Booleans.{or_left, or_right, or_cases}
-use Rattle.heap_model.proofs.Regions.{within}
-use Rattle.heap_model.proofs.Settled.{AreSettled}
-use Rattle.heap_model.proofs.Slots.{same_slot, whole_bounds}
+use Rattle.machine_model.specs.declared.region.Region.{Region}
+use Rattle.machine_model.specs.State.{end_of_region, is_within}
+use Rattle.machine_model.specs.Place.{meets, meets_any}
+use Rattle.machine_model.specs.Slots.{IsSlot, slot_number, has_whole, is_whole_in, is_part_in}
+use Rattle.machine_model.specs.Machine.{Paged}
+use Rattle.machine_model.proofs.Booleans.{or_left, or_right, or_cases}
+use Rattle.machine_model.proofs.Regions.{within}
+use Rattle.machine_model.proofs.Settled.{AreSettled}
+use Rattle.machine_model.proofs.Slots.{same_slot, whole_bounds}
 use Rattle.mapped_regions.specs.Regions.{kind_at}
 use Rattle.mapped_regions.specs.Mapped.{IsRegion, IsMapped}
 use Rattle.mapped_regions.proofs.Mapped.{some_mapped}

@@ -8,23 +8,23 @@ use Rattle.paging_core.specs.Prefix.{Prefix}
 use Rattle.paging_core.specs.Walk.{reached}
 use Rattle.paging_core.specs.PageBits.{bits_of}
 use Rattle.paging_core.specs.declared.page_table.Rights.{Rights}
-use Rattle.heap_model.specs.declared.live.Live.{Live}
-use Rattle.heap_model.specs.declared.region.Region.{Region}
-use Rattle.heap_model.specs.State.{State, Block, end_of_region, is_within, total_pages, region_at}
-use Rattle.heap_model.specs.Tables.{used_frames}
-use Rattle.heap_model.specs.Slots.{slot_prefix, is_whole_in, is_part_in}
-use Rattle.heap_model.specs.Place.{meets_any, with_region, all_regions}
-use Rattle.heap_model.specs.Answer.{settled}
-use Rattle.heap_model.specs.Cut.{AreCut}
-use Rattle.heap_model.specs.Memory.{HoldsBytes}
-use Rattle.heap_model.specs.Run.{IsGood, AreRegionsInOrder}
-use Rattle.heap_model.specs.Machine.{Paged, Seen, Stands, outline}
-use Rattle.heap_model.proofs.Booleans.{or_neither}
-use Rattle.heap_model.proofs.Cut.{cut_heap}
-use Rattle.heap_model.proofs.Settled.{AreSettled, cut_slots, settled_larges, settled_tables, settled_count}
-use Rattle.heap_model.proofs.Regions.{not_within, within_bounds, find_behind, find_same}
-use Rattle.heap_model.proofs.Mapped.{reached_walk}
-use Rattle.heap_model.proofs.Moved.{user_of_machine}
+use Rattle.machine_model.specs.declared.live.Live.{Live}
+use Rattle.machine_model.specs.declared.region.Region.{Region}
+use Rattle.machine_model.specs.State.{State, Block, end_of_region, is_within, total_pages, region_at}
+use Rattle.machine_model.specs.Tables.{used_frames}
+use Rattle.machine_model.specs.Slots.{slot_prefix, is_whole_in, is_part_in}
+use Rattle.machine_model.specs.Place.{meets_any, with_region, all_regions}
+use Rattle.machine_model.specs.Answer.{settled}
+use Rattle.machine_model.specs.Cut.{AreCut}
+use Rattle.machine_model.specs.Memory.{HoldsBytes}
+use Rattle.machine_model.specs.Run.{IsGood, AreRegionsInOrder}
+use Rattle.machine_model.specs.Machine.{Paged, Seen, Stands, outline}
+use Rattle.machine_model.proofs.Booleans.{or_neither}
+use Rattle.machine_model.proofs.Cut.{cut_heap}
+use Rattle.machine_model.proofs.Settled.{AreSettled, cut_slots, settled_larges, settled_tables, settled_count}
+use Rattle.machine_model.proofs.Regions.{not_within, within_bounds, find_behind, find_same}
+use Rattle.machine_model.proofs.Mapped.{reached_walk}
+use Rattle.machine_model.proofs.Moved.{user_of_machine}
 use Rattle.mapped_regions.specs.Regions.{AreLaid, kind_at}
 use Rattle.mapped_regions.proofs.AllRegions.{Sorted, sorted_with}
 use Rattle.mapped_regions.specs.Mapped.{IsMapped}

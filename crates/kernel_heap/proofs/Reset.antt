@@ -16,22 +16,22 @@ use Rattle.dlmalloc.specs.Released.{is_own, releases, regions_without}
 use Rattle.dlmalloc.specs.GivenBack.{AreGivenBack}
 use Rattle.dlmalloc.specs.declared.heap.Dlmalloc.{Dlmalloc}
 use Rattle.sound_heap.specs.Heap.{fresh_heap}
-use Rattle.heap_model.specs.declared.live.Live.{Live}
-use Rattle.heap_model.specs.declared.region.Region.{Region}
-use Rattle.heap_model.specs.declared.call.Call.TheVariants.{Reset}
-use Rattle.heap_model.specs.declared.answer.Reply.TheVariants.{Released}
-use Rattle.heap_model.specs.State.{State, Block, total_pages}
-use Rattle.heap_model.specs.Tables.{used_frames}
-use Rattle.heap_model.specs.Place.{meets_any}
-use Rattle.heap_model.specs.Cut.{AreCut}
-use Rattle.heap_model.specs.Answer.{all_ended}
-use Rattle.heap_model.specs.Run.{IsGood, IsHeapRegion}
-use Rattle.heap_model.specs.Machine.{Stands, IsStep, outline}
-use Rattle.heap_model.proofs.Booleans.{or_cases}
-use Rattle.heap_model.proofs.Placed.{length_outline}
-use Rattle.heap_model.proofs.Ended.{none_live, good_none, holds_ended_all}
-use Rattle.heap_model.proofs.Shortened.{pages_cut, none_gone, good_cut}
-use Rattle.heap_model.proofs.Slots.{settled_same}
+use Rattle.machine_model.specs.declared.live.Live.{Live}
+use Rattle.machine_model.specs.declared.region.Region.{Region}
+use Rattle.machine_model.specs.declared.call.Call.TheVariants.{Reset}
+use Rattle.machine_model.specs.declared.answer.Reply.TheVariants.{Released}
+use Rattle.machine_model.specs.State.{State, Block, total_pages}
+use Rattle.machine_model.specs.Tables.{used_frames}
+use Rattle.machine_model.specs.Place.{meets_any}
+use Rattle.machine_model.specs.Cut.{AreCut}
+use Rattle.machine_model.specs.Answer.{all_ended}
+use Rattle.machine_model.specs.Run.{IsGood, IsHeapRegion}
+use Rattle.machine_model.specs.Machine.{Stands, IsStep, outline}
+use Rattle.machine_model.proofs.Booleans.{or_cases}
+use Rattle.machine_model.proofs.Placed.{length_outline}
+use Rattle.machine_model.proofs.Ended.{none_live, good_none, holds_ended_all}
+use Rattle.machine_model.proofs.Shortened.{pages_cut, none_gone, good_cut}
+use Rattle.machine_model.proofs.Slots.{settled_same}
 use Rattle.paged_systems.specs.Window.{IsHeapWindow}
 use Rattle.paged_systems.specs.System.{paged}
 use Rattle.paged_systems.specs.Words.{heap_regions, grant_of}

@@ -19,25 +19,25 @@ use Rattle.dlmalloc.specs.Requested.{asked, IsFound, IsMemberServed}
 use Rattle.dlmalloc.specs.Moved.{others_at, IsGivenSize, HasByteOf}
 use Rattle.dlmalloc.specs.Served.{IsRefusedWith}
 use Rattle.dlmalloc.specs.declared.malloc_error.MallocError.{MallocError}
-use Rattle.heap_model.specs.declared.answer.Refusal.{Refusal}
+use Rattle.machine_model.specs.declared.answer.Refusal.{Refusal}
 use Rattle.dlmalloc.specs.declared.heap.Dlmalloc.{Dlmalloc}
-use Rattle.heap_model.specs.declared.live.Live.{Live}
-use Rattle.heap_model.specs.declared.region.Region.{Region}
-use Rattle.heap_model.specs.declared.answer.Reply.TheVariants.{Block as Placed}
-use Rattle.heap_model.specs.declared.answer.Refusal.TheVariants.{UnknownBlock}
-use Rattle.heap_model.specs.State.{State, Known, Block, block_at, cell_at, is_within}
-use Rattle.heap_model.specs.Place.{meets_any}
-use Rattle.heap_model.specs.Memory.{HoldsBytes}
-use Rattle.heap_model.specs.Room.{IsGrowth}
-use Rattle.heap_model.specs.Refusal.{own_align, least_align, refuse_resizing, must_refuse, wanted_by}
-use Rattle.heap_model.specs.Answer.{with_block, resized_block, IsResizing, IsCallServed, changed, without_block}
-use Rattle.heap_model.specs.Run.{IsGood}
-use Rattle.heap_model.specs.Machine.{Paged, Stands, IsStep, outline}
-use Rattle.heap_model.proofs.Ended.{left_at}
-use Rattle.heap_model.proofs.Known.{known_within}
-use Rattle.heap_model.proofs.Placed.{outline_of, outline_at}
-use Rattle.heap_model.proofs.Resized.{length-resized, outline_changed, good_resized, holds_resized}
-use Rattle.heap_model.proofs.Shortened.{good_there, good_over}
+use Rattle.machine_model.specs.declared.live.Live.{Live}
+use Rattle.machine_model.specs.declared.region.Region.{Region}
+use Rattle.machine_model.specs.declared.answer.Reply.TheVariants.{Block as Placed}
+use Rattle.machine_model.specs.declared.answer.Refusal.TheVariants.{UnknownBlock}
+use Rattle.machine_model.specs.State.{State, Known, Block, block_at, cell_at, is_within}
+use Rattle.machine_model.specs.Place.{meets_any}
+use Rattle.machine_model.specs.Memory.{HoldsBytes}
+use Rattle.machine_model.specs.Room.{IsGrowth}
+use Rattle.machine_model.specs.Refusal.{own_align, least_align, refuse_resizing, must_refuse, wanted_by}
+use Rattle.machine_model.specs.Answer.{with_block, resized_block, IsResizing, IsCallServed, changed, without_block}
+use Rattle.machine_model.specs.Run.{IsGood}
+use Rattle.machine_model.specs.Machine.{Paged, Stands, IsStep, outline}
+use Rattle.machine_model.proofs.Ended.{left_at}
+use Rattle.machine_model.proofs.Known.{known_within}
+use Rattle.machine_model.proofs.Placed.{outline_of, outline_at}
+use Rattle.machine_model.proofs.Resized.{length-resized, outline_changed, good_resized, holds_resized}
+use Rattle.machine_model.proofs.Shortened.{good_there, good_over}
 use Rattle.paged_systems.specs.Follows.{still_none}
 use Rattle.paged_systems.specs.System.{paged}
 use Rattle.paged_systems.specs.Words.{heap_regions}

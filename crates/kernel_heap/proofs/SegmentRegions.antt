@@ -11,7 +11,7 @@ use Rattle.dlmalloc.specs.Freed.{freed_in, freed}
 use Rattle.dlmalloc.specs.Requested.{IsFound}
 use Rattle.dlmalloc.specs.Taken.{in_segments}
 use Rattle.dlmalloc.specs.declared.heap.Dlmalloc.{Dlmalloc}
-use Rattle.heap_model.proofs.Booleans.{or_left, or_right, or_cases}
+use Rattle.machine_model.proofs.Booleans.{or_left, or_right, or_cases}
 use Rattle.kernel_heap.specs.Heap.{follows, regions, heap_state}
 use Rattle.kernel_heap.specs.LaidOut.{has_region, HaveRegions}
 use Rattle.paged_systems.specs.declared.paged_system.PagedSystem.{PagedSystem}

@@ -11,9 +11,9 @@ use Rattle.dlmalloc.specs.Released.{may_leave, handed_out, staying, taken_back, 
 use Rattle.dlmalloc.specs.Trimmed.{shortened, cut_of, cut_top, is_cut, after_cut, given_up, top_bytes, is_trimmed, gives_back, trimmed, without_end, regions_cut, regions_trimmed}
 use Rattle.dlmalloc.specs.AfterFree.{is_above_check, after_free, regions_after}
 use Rattle.dlmalloc.proofs.Segments.RegionsLess.{all_without}
-use Rattle.heap_model.specs.declared.region.Region.{Region}
-use Rattle.heap_model.specs.State.{end_of_region}
-use Rattle.heap_model.proofs.Booleans.{or_left, or_right, or_cases}
+use Rattle.machine_model.specs.declared.region.Region.{Region}
+use Rattle.machine_model.specs.State.{end_of_region}
+use Rattle.machine_model.proofs.Booleans.{or_left, or_right, or_cases}
 use Rattle.mapped_regions.specs.Regions.{AreLaid}
 use Rattle.paged_systems.specs.Words.{heap_regions, grant_of}
 use Rattle.kernel_heap.specs.LaidOut.{has_region, HaveRegions}

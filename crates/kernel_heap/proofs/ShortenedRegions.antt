@@ -6,14 +6,14 @@ use Rattle.std.proofs.lemmas.Bool.{cases_lt}
 use Rattle.std.proofs.lemmas.Bool.Decides.{nat_tests}
 use Rattle.paging_core.specs.Address.{is_canonical}
 use Rattle.paging_core.specs.Walk.{Place, reach, large_of, walk_of, reached}
-use Rattle.heap_model.specs.declared.region.Region.{Region}
-use Rattle.heap_model.specs.State.{end_of_region, is_within}
-use Rattle.heap_model.specs.Place.{meets}
-use Rattle.heap_model.specs.Slots.{IsSlot, slot_number}
-use Rattle.heap_model.specs.Cut.{AreCut}
-use Rattle.heap_model.specs.Machine.{Paged, OnlyHeapBytesChange, is_of_user}
-use Rattle.heap_model.proofs.Cut.{none_cut, cut_on}
-use Rattle.heap_model.proofs.Settled.{cut_slots}
+use Rattle.machine_model.specs.declared.region.Region.{Region}
+use Rattle.machine_model.specs.State.{end_of_region, is_within}
+use Rattle.machine_model.specs.Place.{meets}
+use Rattle.machine_model.specs.Slots.{IsSlot, slot_number}
+use Rattle.machine_model.specs.Cut.{AreCut}
+use Rattle.machine_model.specs.Machine.{Paged, OnlyHeapBytesChange, is_of_user}
+use Rattle.machine_model.proofs.Cut.{none_cut, cut_on}
+use Rattle.machine_model.proofs.Settled.{cut_slots}
 use Rattle.mapped_regions.specs.Regions.{AreLaid, cut_regions}
 
 -- the regions of the user among these

@@ -1,11 +1,11 @@
 -- The slots of the region that joined last are told: nothing that a state has is different then.
 use Rattle.std.proofs.Common.{◌≡◌, ℕ, inl, inr, List, [], Option, Some, None, refl, sym, ap, ◌∙◌, subst}
-use Rattle.heap_model.specs.declared.call.Call.{Call}
-use Rattle.heap_model.specs.declared.answer.Answer.{Answer}
-use Rattle.heap_model.specs.State.{State}
-use Rattle.heap_model.specs.Answer.{NewPages}
-use Rattle.heap_model.specs.Machine.{Paged, IsStep}
-use Rattle.heap_model.proofs.Moved.{stands_taken}
+use Rattle.machine_model.specs.declared.call.Call.{Call}
+use Rattle.machine_model.specs.declared.answer.Answer.{Answer}
+use Rattle.machine_model.specs.State.{State}
+use Rattle.machine_model.specs.Answer.{NewPages}
+use Rattle.machine_model.specs.Machine.{Paged, IsStep}
+use Rattle.machine_model.proofs.Moved.{stands_taken}
 use Rattle.paged_systems.specs.System.{paged}
 use Rattle.kernel_heap.specs.Machine.{system_of, seen_with}
 use Rattle.kernel_heap.specs.Kept.{AreRunsUsedFor}

@@ -10,21 +10,21 @@ use Rattle.dlmalloc.specs.Released.{passed}
 use Rattle.dlmalloc.specs.Trimmed.{cut_top, cut_of, is_cut, gives_back, top_bytes, is_trimmed, trimmed, trim_releases, regions_trimmed}
 use Rattle.dlmalloc.specs.Shortened.{IsTrimmed}
 use Rattle.dlmalloc.specs.declared.heap.Dlmalloc.{Dlmalloc}
-use Rattle.heap_model.specs.declared.live.Live.{Live}
-use Rattle.heap_model.specs.declared.region.Region.{Region}
-use Rattle.heap_model.specs.declared.call.Call.TheVariants.{Trim}
-use Rattle.heap_model.specs.declared.answer.Reply.TheVariants.{Trimmed}
-use Rattle.heap_model.specs.State.{State, Block, block_at, cover, is_within, total_pages}
-use Rattle.heap_model.specs.Place.{meets_any}
-use Rattle.heap_model.specs.Cut.{AreCut}
-use Rattle.heap_model.specs.Memory.{HoldsBytes}
-use Rattle.heap_model.specs.Run.{IsGood, IsHeapRegion}
-use Rattle.heap_model.specs.Machine.{Stands, IsStep, outline}
-use Rattle.heap_model.proofs.Cut.{none_cut}
-use Rattle.heap_model.proofs.Known.{known_within}
-use Rattle.heap_model.proofs.Placed.{outline_of}
-use Rattle.heap_model.proofs.Shortened.{length_cut, none_gone, good_cut}
-use Rattle.heap_model.proofs.Slots.{settled_same}
+use Rattle.machine_model.specs.declared.live.Live.{Live}
+use Rattle.machine_model.specs.declared.region.Region.{Region}
+use Rattle.machine_model.specs.declared.call.Call.TheVariants.{Trim}
+use Rattle.machine_model.specs.declared.answer.Reply.TheVariants.{Trimmed}
+use Rattle.machine_model.specs.State.{State, Block, block_at, cover, is_within, total_pages}
+use Rattle.machine_model.specs.Place.{meets_any}
+use Rattle.machine_model.specs.Cut.{AreCut}
+use Rattle.machine_model.specs.Memory.{HoldsBytes}
+use Rattle.machine_model.specs.Run.{IsGood, IsHeapRegion}
+use Rattle.machine_model.specs.Machine.{Stands, IsStep, outline}
+use Rattle.machine_model.proofs.Cut.{none_cut}
+use Rattle.machine_model.proofs.Known.{known_within}
+use Rattle.machine_model.proofs.Placed.{outline_of}
+use Rattle.machine_model.proofs.Shortened.{length_cut, none_gone, good_cut}
+use Rattle.machine_model.proofs.Slots.{settled_same}
 use Rattle.paged_systems.specs.System.{paged, pageless_frames}
 use Rattle.kernel_heap.specs.Moves.{marks_of, AreRegionsTold}
 use Rattle.paged_systems.specs.Words.{heap_regions}

@@ -4,23 +4,23 @@ use Rattle.std.specs.List.{list_any, AllByRecursion}
 use Rattle.std.proofs.lemmas.Bool.Decides.{nat_tests}
 use Rattle.paging_core.specs.Walk.{reached}
 use Rattle.paging_core.specs.declared.page_table.Rights.{Rights}
-use Rattle.heap_model.specs.declared.region.Region.{Region}
-use Rattle.heap_model.specs.declared.call.Call.TheVariants.{Map, Unmap}
-use Rattle.heap_model.specs.declared.answer.Refusal.{Refusal}
-use Rattle.heap_model.specs.declared.answer.Reply.TheVariants.{Done}
-use Rattle.heap_model.specs.State.{State, end_of_region}
-use Rattle.heap_model.specs.Tables.{missing, free_frames}
-use Rattle.heap_model.specs.Place.{meets, meets_any, is_at, without_region, with_region, all_regions}
-use Rattle.heap_model.specs.Room.{user_region}
-use Rattle.heap_model.specs.Refusal.{is_page_range, must_refuse}
-use Rattle.heap_model.specs.Run.{IsGood, IsHeapRegion, IsUserRegion, AreRegionsInOrder}
-use Rattle.heap_model.specs.Slots.{listed_slots}
-use Rattle.heap_model.specs.Machine.{Paged, Seen, Stands, IsStep}
-use Rattle.heap_model.proofs.Booleans.{or_neither, neither_or}
-use Rattle.heap_model.proofs.Regions.{any_all}
-use Rattle.heap_model.proofs.Added.{missing_same}
-use Rattle.heap_model.proofs.NewSlots.{slots_bare}
-use Rattle.heap_model.proofs.Mapped.{range_whole, whole_range, user_beside, with_user, without_user, stands_mapped, stands_unmapped, step_mapped, step_unmapped}
+use Rattle.machine_model.specs.declared.region.Region.{Region}
+use Rattle.machine_model.specs.declared.call.Call.TheVariants.{Map, Unmap}
+use Rattle.machine_model.specs.declared.answer.Refusal.{Refusal}
+use Rattle.machine_model.specs.declared.answer.Reply.TheVariants.{Done}
+use Rattle.machine_model.specs.State.{State, end_of_region}
+use Rattle.machine_model.specs.Tables.{missing, free_frames}
+use Rattle.machine_model.specs.Place.{meets, meets_any, is_at, without_region, with_region, all_regions}
+use Rattle.machine_model.specs.Room.{user_region}
+use Rattle.machine_model.specs.Refusal.{is_page_range, must_refuse}
+use Rattle.machine_model.specs.Run.{IsGood, IsHeapRegion, IsUserRegion, AreRegionsInOrder}
+use Rattle.machine_model.specs.Slots.{listed_slots}
+use Rattle.machine_model.specs.Machine.{Paged, Seen, Stands, IsStep}
+use Rattle.machine_model.proofs.Booleans.{or_neither, neither_or}
+use Rattle.machine_model.proofs.Regions.{any_all}
+use Rattle.machine_model.proofs.Added.{missing_same}
+use Rattle.machine_model.proofs.NewSlots.{slots_bare}
+use Rattle.machine_model.proofs.Mapped.{range_whole, whole_range, user_beside, with_user, without_user, stands_mapped, stands_unmapped, step_mapped, step_unmapped}
 use Rattle.mapped_regions.proofs.AllRegions.{Sorted, joined_users, left_users, heap_met, user_listed}
 use Rattle.mapped_regions.specs.declared.map_fault.MapFault.{MapFault}
 use Rattle.mapped_regions.specs.declared.map_fault.MapFault.TheVariants as Mapping

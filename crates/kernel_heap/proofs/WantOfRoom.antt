@@ -9,11 +9,11 @@ use Rattle.dlmalloc.specs.Served.{IsMallocRefused, IsRefusedWith}
 use Rattle.dlmalloc.specs.declared.heap.Dlmalloc.{Dlmalloc}
 use Rattle.dlmalloc.specs.declared.malloc_error.MallocError.{MallocError}
 use Rattle.dlmalloc.specs.declared.malloc_error.MallocError.TheVariants.{TooLarge, System}
-use Rattle.heap_model.specs.declared.live.Live.{Live}
-use Rattle.heap_model.specs.declared.answer.Refusal.{Refusal}
-use Rattle.heap_model.specs.declared.answer.Refusal.TheVariants.{TooLarge as IsTooLarge, NoSpace as HasNoSpace, NoFrames as HasNoFrames}
-use Rattle.heap_model.specs.declared.answer.Reply.{Reply}
-use Rattle.heap_model.specs.declared.answer.Reply.TheVariants.{Refused}
+use Rattle.machine_model.specs.declared.live.Live.{Live}
+use Rattle.machine_model.specs.declared.answer.Refusal.{Refusal}
+use Rattle.machine_model.specs.declared.answer.Refusal.TheVariants.{TooLarge as IsTooLarge, NoSpace as HasNoSpace, NoFrames as HasNoFrames}
+use Rattle.machine_model.specs.declared.answer.Reply.{Reply}
+use Rattle.machine_model.specs.declared.answer.Reply.TheVariants.{Refused}
 use Rattle.kernel_heap.specs.Heap.{regions, word, follows, refuses, denies, heap_state}
 use Rattle.kernel_heap.specs.Machine.{heap_of}
 use Rattle.kernel_heap.specs.Numbered.{live_at}

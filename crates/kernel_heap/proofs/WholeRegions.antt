@@ -10,11 +10,11 @@ use Rattle.dlmalloc.specs.Heap.{IsSound}
 use Rattle.dlmalloc.specs.Segments.{IsWithin, AreSegments, has_byte_in}
 use Rattle.dlmalloc.specs.declared.heap.Dlmalloc.{Dlmalloc}
 use Rattle.dlmalloc.specs.Served.{AreSpans}
-use Rattle.heap_model.specs.declared.region.Region.{Region}
-use Rattle.heap_model.specs.State.{end_of_region, is_within}
-use Rattle.heap_model.specs.Extents.{begins_at, ends_at, AreRuns}
-use Rattle.heap_model.proofs.Booleans.{or_left, or_right, or_cases}
-use Rattle.heap_model.proofs.Regions.{within_bounds}
+use Rattle.machine_model.specs.declared.region.Region.{Region}
+use Rattle.machine_model.specs.State.{end_of_region, is_within}
+use Rattle.machine_model.specs.Extents.{begins_at, ends_at, AreRuns}
+use Rattle.machine_model.proofs.Booleans.{or_left, or_right, or_cases}
+use Rattle.machine_model.proofs.Regions.{within_bounds}
 use Rattle.paged_systems.specs.Words.{heap_regions, grant_of}
 use Rattle.paged_systems.specs.System.{paged}
 use Rattle.kernel_heap.specs.Heap.{regions, word, heap_state}

@@ -11,9 +11,9 @@ use Rattle.dlmalloc.specs.declared.heap.Dlmalloc.{Dlmalloc}
 use Rattle.dlmalloc.specs.declared.malloc_error.MallocError.{MallocError}
 use Rattle.dlmalloc.specs.declared.malloc_error.MallocError.TheVariants.{TooLarge}
 use Rattle.sound_heap.specs.Heap.{usable}
-use Rattle.heap_model.specs.declared.live.Live.{Live}
-use Rattle.heap_model.specs.declared.call.Call.{Call}
-use Rattle.heap_model.specs.declared.call.Call.TheVariants.{Malloc, Calloc, Realloc, CRealloc}
+use Rattle.machine_model.specs.declared.live.Live.{Live}
+use Rattle.machine_model.specs.declared.call.Call.{Call}
+use Rattle.machine_model.specs.declared.call.Call.TheVariants.{Malloc, Calloc, Realloc, CRealloc}
 use Rattle.kernel_heap.specs.Heap.{regions, word, follows, zeros, refuses, denies, heap_state}
 use Rattle.paged_systems.specs.declared.paged_system.PagedSystem.{PagedSystem}
 

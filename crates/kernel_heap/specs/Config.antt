@@ -2,7 +2,7 @@
 use Rattle.std.specs.Prelude.{◌≡◌, ◌<◌}
 use Rattle.paged_systems.specs.Window.{IsHeapWindow}
 use Rattle.dlmalloc.specs.Heap.{IsGranularity}
-use Rattle.heap_model.specs.declared.config.Config.{Config}
+use Rattle.machine_model.specs.declared.config.Config.{Config}
 use Rattle.kernel_heap.specs.declared.run_error.RunError.{RunError}
 use Rattle.kernel_heap.specs.declared.run_error.RunError.TheVariants.{BadWindow, BadGranularity, TooFewFrames, OutOfMemory}
 

@@ -1,14 +1,14 @@
 -- What a call leaves as it was, and what its answer shows.
 use Rattle.std.specs.Prelude.{◌≡◌, ℕ, ⊤, Bool, true, false, Option, Some, None, not, IsTrue}
 use Rattle.paging_core.specs.Walk.{reached}
-use Rattle.heap_model.specs.declared.call.Call.{Call}
-use Rattle.heap_model.specs.declared.call.Call.TheVariants.{Realloc, CRealloc, Write, Unmap, Probe, SetRate, SetGranularity}
-use Rattle.heap_model.specs.declared.answer.Answer.{Answer}
-use Rattle.heap_model.specs.declared.answer.Reply.{Reply}
-use Rattle.heap_model.specs.declared.answer.Reply.TheVariants.{Bytes, Byte, Fault, Accepted, Extents as Listed, Refused}
-use Rattle.heap_model.specs.State.{State}
-use Rattle.heap_model.specs.Answer.{NewPages, new_pages}
-use Rattle.heap_model.specs.Machine.{Paged}
+use Rattle.machine_model.specs.declared.call.Call.{Call}
+use Rattle.machine_model.specs.declared.call.Call.TheVariants.{Realloc, CRealloc, Write, Unmap, Probe, SetRate, SetGranularity}
+use Rattle.machine_model.specs.declared.answer.Answer.{Answer}
+use Rattle.machine_model.specs.declared.answer.Reply.{Reply}
+use Rattle.machine_model.specs.declared.answer.Reply.TheVariants.{Bytes, Byte, Fault, Accepted, Extents as Listed, Refused}
+use Rattle.machine_model.specs.State.{State}
+use Rattle.machine_model.specs.Answer.{NewPages, new_pages}
+use Rattle.machine_model.specs.Machine.{Paged}
 use Rattle.mapped_regions.specs.Mapped.{AreRunsUsed}
 use Rattle.kernel_heap.specs.declared.numbered_heap.NumberedHeap.{NumberedHeap}
 use Rattle.kernel_heap.specs.Machine.{seen_with}

@@ -9,7 +9,7 @@ use Rattle.dlmalloc.specs.State.{HeapState, Segment, extents_in}
 use Rattle.dlmalloc.specs.Blocks.{IsBlock}
 use Rattle.dlmalloc.specs.declared.heap.Dlmalloc.{Dlmalloc}
 use Rattle.heap_memory.specs.declared.grant.Grant.{Grant}
-use Rattle.heap_model.specs.declared.live.Live.{Live}
+use Rattle.machine_model.specs.declared.live.Live.{Live}
 use Rattle.kernel_heap.specs.Heap.{regions, heap_state}
 use Rattle.paged_systems.specs.declared.paged_system.PagedSystem.{PagedSystem}
 use Rattle.kernel_heap.specs.declared.numbered_heap.NumberedHeap.{NumberedHeap}

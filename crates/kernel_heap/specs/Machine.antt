@@ -2,8 +2,8 @@
 use Rattle.std.specs.Prelude.{ℕ, List, Option}
 use Rattle.dlmalloc.specs.State.{HeapState}
 use Rattle.dlmalloc.specs.declared.heap.Dlmalloc.{Dlmalloc}
-use Rattle.heap_model.specs.declared.live.Live.{Live}
-use Rattle.heap_model.specs.Machine.{Seen}
+use Rattle.machine_model.specs.declared.live.Live.{Live}
+use Rattle.machine_model.specs.Machine.{Seen}
 use Rattle.x86_registers.specs.Cr3.{root_of}
 use Rattle.paged_systems.specs.System.{paged}
 use Rattle.kernel_heap.specs.Heap.{heap_state}

@@ -8,14 +8,14 @@ use Rattle.dlmalloc.specs.Order.{KeepsIndex}
 use Rattle.dlmalloc.specs.Served.{IsRefusedWith, IsListed}
 use Rattle.dlmalloc.specs.declared.heap.Dlmalloc.{Dlmalloc}
 use Rattle.sound_heap.specs.Heap.{fresh_heap}
-use Rattle.heap_model.specs.Slots.{listed_slots}
-use Rattle.heap_model.specs.Machine.{Paged, AreLargeSlots}
-use Rattle.heap_model.specs.declared.call.Call.{Call}
-use Rattle.heap_model.specs.declared.call.Call.TheVariants.{Malloc, Calloc, Realloc, CRealloc, Free, Map, Trim, SetRate, SetGranularity, Reset, Extents}
-use Rattle.heap_model.specs.declared.answer.Reply.{Reply}
-use Rattle.heap_model.specs.declared.answer.Reply.TheVariants.{Block as Placed, Done, Trimmed, Accepted, Released, Extents as Listed, Refused}
-use Rattle.heap_model.specs.declared.answer.Refusal.{Refusal}
-use Rattle.heap_model.specs.declared.region.Region.{Region}
+use Rattle.machine_model.specs.Slots.{listed_slots}
+use Rattle.machine_model.specs.Machine.{Paged, AreLargeSlots}
+use Rattle.machine_model.specs.declared.call.Call.{Call}
+use Rattle.machine_model.specs.declared.call.Call.TheVariants.{Malloc, Calloc, Realloc, CRealloc, Free, Map, Trim, SetRate, SetGranularity, Reset, Extents}
+use Rattle.machine_model.specs.declared.answer.Reply.{Reply}
+use Rattle.machine_model.specs.declared.answer.Reply.TheVariants.{Block as Placed, Done, Trimmed, Accepted, Released, Extents as Listed, Refused}
+use Rattle.machine_model.specs.declared.answer.Refusal.{Refusal}
+use Rattle.machine_model.specs.declared.region.Region.{Region}
 use Rattle.paged_systems.specs.System.{paged, pageless_frames}
 use Rattle.paged_systems.specs.Words.{heap_regions}
 use Rattle.kernel_heap.specs.Heap.{regions, word, follows, denies, refuses, heap_state}

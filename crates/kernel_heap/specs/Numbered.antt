@@ -1,8 +1,8 @@
 -- The live blocks of a numbered heap, by number, and their bytes.
 use Rattle.std.specs.Prelude.{◌≡◌, ℕ, ◌+◌, ◌≤◌, List, slice_index_or, Option, Some, None, nat_lt, if◌then◌else◌}
-use Rattle.heap_model.specs.declared.live.Live.{Live}
-use Rattle.heap_model.specs.declared.answer.Refusal.{Refusal}
-use Rattle.heap_model.specs.declared.answer.Refusal.TheVariants.{UnknownBlock, OutOfBlock}
+use Rattle.machine_model.specs.declared.live.Live.{Live}
+use Rattle.machine_model.specs.declared.answer.Refusal.{Refusal}
+use Rattle.machine_model.specs.declared.answer.Refusal.TheVariants.{UnknownBlock, OutOfBlock}
 
 -- the live block of a number
 abbrev pub live_at : List (Option Live) → ℕ → Option Live

@@ -1,6 +1,6 @@
 -- All blocks that were handed out, by number.
 use Rattle.std.specs.Prelude.{◌≡◌, ℕ, ◌<◌, ◌≤◌, List, Option, None, length}
-use Rattle.heap_model.specs.declared.live.Live.{Live}
+use Rattle.machine_model.specs.declared.live.Live.{Live}
 use Rattle.kernel_heap.specs.Numbered.{live_at}
 
 -- the blocks by number, and how many can be numbered before memory is asked for

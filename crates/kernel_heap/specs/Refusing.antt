@@ -8,10 +8,10 @@ use Rattle.dlmalloc.specs.Resized.{in_place}
 use Rattle.dlmalloc.specs.declared.malloc_error.MallocError.{MallocError}
 use Rattle.dlmalloc.specs.declared.malloc_error.MallocError.TheVariants.{TooLarge, System}
 use Rattle.heap_memory.specs.declared.grant.GrantFault.TheVariants.{NoSpace, NoFrames, OutOfMemory}
-use Rattle.heap_model.specs.declared.answer.Answer.{Answer}
-use Rattle.heap_model.specs.declared.answer.Reply.TheVariants.{Refused}
-use Rattle.heap_model.specs.declared.answer.Refusal.{Refusal}
-use Rattle.heap_model.specs.declared.answer.Refusal.TheVariants.{TooLarge as IsTooLarge, NoSpace as HasNoSpace, NoFrames as HasNoFrames, BadRange, HeapRegion, Overlap, UnknownRegion}
+use Rattle.machine_model.specs.declared.answer.Answer.{Answer}
+use Rattle.machine_model.specs.declared.answer.Reply.TheVariants.{Refused}
+use Rattle.machine_model.specs.declared.answer.Refusal.{Refusal}
+use Rattle.machine_model.specs.declared.answer.Refusal.TheVariants.{TooLarge as IsTooLarge, NoSpace as HasNoSpace, NoFrames as HasNoFrames, BadRange, HeapRegion, Overlap, UnknownRegion}
 use Rattle.mapped_regions.specs.declared.map_fault.MapFault.{MapFault}
 use Rattle.mapped_regions.specs.declared.map_fault.MapFault.TheVariants as Mapping
 use Rattle.mapped_regions.specs.declared.map_fault.UnmapFault.{UnmapFault}

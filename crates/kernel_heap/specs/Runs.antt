@@ -1,11 +1,11 @@
 -- Calls that were served one after the other.
 use Rattle.std.specs.Prelude.{List, map, Some}
-use Rattle.heap_model.specs.declared.call.Call.{Call}
-use Rattle.heap_model.specs.declared.answer.Answer.{Answer}
-use Rattle.heap_model.specs.declared.config.Config.{Config}
-use Rattle.heap_model.specs.State.{State, start}
-use Rattle.heap_model.specs.Run.{IsGood, RunsTo}
-use Rattle.heap_model.specs.Machine.{Stands}
+use Rattle.machine_model.specs.declared.call.Call.{Call}
+use Rattle.machine_model.specs.declared.answer.Answer.{Answer}
+use Rattle.machine_model.specs.declared.config.Config.{Config}
+use Rattle.machine_model.specs.State.{State, start}
+use Rattle.machine_model.specs.Run.{IsGood, RunsTo}
+use Rattle.machine_model.specs.Machine.{Stands}
 use Rattle.kernel_heap.specs.Machine.{seen}
 use Rattle.kernel_heap.specs.Steps.{IsNewMachine, StepsTo}
 use Rattle.kernel_heap.specs.declared.machine.Machine.{Machine}

@@ -1,11 +1,11 @@
 -- What a numbered heap does when it serves a call.
 use Rattle.std.specs.Prelude.{◌≡◌, ℕ, Result, IfOk, OnErr}
 use Rattle.std.specs.declared.alloc.AllocError.{AllocError}
-use Rattle.heap_model.specs.declared.answer.Answer.{Answer}
-use Rattle.heap_model.specs.declared.call.Call.{Call}
-use Rattle.heap_model.specs.Machine.{Stands, IsStep}
-use Rattle.heap_model.specs.Run.{IsGood}
-use Rattle.heap_model.specs.State.{State}
+use Rattle.machine_model.specs.declared.answer.Answer.{Answer}
+use Rattle.machine_model.specs.declared.call.Call.{Call}
+use Rattle.machine_model.specs.Machine.{Stands, IsStep}
+use Rattle.machine_model.specs.Run.{IsGood}
+use Rattle.machine_model.specs.State.{State}
 use Rattle.kernel_heap.specs.declared.numbered_heap.NumberedHeap.{NumberedHeap}
 use Rattle.kernel_heap.specs.Kept.{lasting_pages, AreRunsUsedFor, IsSeenAsBefore, IsReachedByte}
 use Rattle.kernel_heap.specs.Machine.{seen_with, system_of}

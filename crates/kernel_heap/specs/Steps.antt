@@ -1,11 +1,11 @@
 -- What a machine is when it is new, what a call does to it, and what calls do one after another.
 use Rattle.std.specs.Prelude.{◌≡◌, IsTrue, List, [], ◌∷◌, Option, Some, None}
-use Rattle.heap_model.specs.declared.answer.Answer.{Answer}
-use Rattle.heap_model.specs.declared.call.Call.{Call}
-use Rattle.heap_model.specs.declared.config.Config.{Config}
-use Rattle.heap_model.specs.Machine.{Stands, IsStep}
-use Rattle.heap_model.specs.Run.{IsGood}
-use Rattle.heap_model.specs.State.{State, start}
+use Rattle.machine_model.specs.declared.answer.Answer.{Answer}
+use Rattle.machine_model.specs.declared.call.Call.{Call}
+use Rattle.machine_model.specs.declared.config.Config.{Config}
+use Rattle.machine_model.specs.Machine.{Stands, IsStep}
+use Rattle.machine_model.specs.Run.{IsGood}
+use Rattle.machine_model.specs.State.{State, start}
 use Rattle.sound_heap.specs.Heap.{fresh_heap, IsIntact}
 use Rattle.kernel_heap.specs.Heap.{regions, word}
 use Rattle.kernel_heap.specs.Kept.{lasting_pages, leaves_all, AreRunsUsedFor, IsReachedByte}

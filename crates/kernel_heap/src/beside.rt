@@ -1,6 +1,6 @@
 // What is done to the system of a heap beside the heap: it stays in its state, with its regions and the order of its bins.
 ghost use Rattle.std.specs.Prelude.{◌≡◌, [], IfErr, OnOk, length};
-ghost use Rattle.heap_model.specs.Slots.{listed_slots};
+ghost use Rattle.machine_model.specs.Slots.{listed_slots};
 ghost use Rattle.sound_heap.specs.Heap.{AreInBlock};
 ghost use Rattle.paged_systems.specs.Beside.{IsUserMapped, IsMapDenied, IsUserUnmapped, IsUnmapDenied};
 ghost use Rattle.kernel_heap.specs.Heap.{heap_state};
@@ -8,7 +8,7 @@ ghost use Rattle.kernel_heap.specs.Moves.{IsKeptBeside};
 ghost use Rattle.paged_systems.specs.System.{paged};
 ghost use Rattle.paged_systems.specs.Written.{AreBytesWritten};
 
-use heap_model::{Rights, SlotList};
+use machine_model::{Rights, SlotList};
 use mapped_regions::{MapFault, UnmapFault};
 use paged_systems::PagedSystem;
 use sound_heap::Heap;

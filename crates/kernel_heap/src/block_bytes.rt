@@ -9,7 +9,7 @@ ghost use Rattle.kernel_heap.specs.Served.{HasServedCall};
 
 use crate::beside;
 use crate::numbered_heap::{NumberedHeap, refused};
-use heap_model::{Answer, Call, Refusal, Reply};
+use machine_model::{Answer, Call, Refusal, Reply};
 use std::alloc::AllocError;
 
 impl NumberedHeap {

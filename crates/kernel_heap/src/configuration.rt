@@ -5,7 +5,7 @@ ghost use Rattle.paged_systems.specs.Window.{IsHeapWindow};
 
 use crate::run_error::RunError;
 use dlmalloc::is_granularity;
-use heap_model::Config;
+use machine_model::Config;
 
 /// The bytes of a page.
 const PAGE: u64 = 4096;

@@ -15,11 +15,11 @@ mod settings;
 mod trimming;
 mod user_calls;
 
-pub use heap_model::{
+pub use machine::Machine;
+pub use machine_model::{
     Access, Answer, AnswerList, Bytes, Call, CallList, Config, Extent, ExtentList, Kind,
     PageFaultErrorCode, PublicList, Refusal, Region, RegionList, Reply, Rights, SlotList,
 };
-pub use machine::Machine;
 pub use mapped_regions::{MapFault, UnmapFault};
 pub use paged_systems::{PagedSystem, TwinSystem};
 pub use probing::{fault_code, is_granted};

@@ -8,7 +8,7 @@ use crate::configuration::check;
 use crate::numbered_blocks::NumberedBlocks;
 use crate::numbered_heap::NumberedHeap;
 use crate::run_error::RunError;
-use heap_model::{Answer, Call, Config, Reply};
+use machine_model::{Answer, Call, Config, Reply};
 use paged_systems::PagedSystem;
 use paging_core::PhysFrame;
 use sound_heap::Heap;
@@ -81,10 +81,10 @@ impl Machine {
     ghost use Rattle.std.specs.Prelude.{List};
     ghost use Rattle.dlmalloc_chunks.specs.declared.extent.Extent.{Extent};
     ghost use Rattle.dlmalloc.specs.Listed.{IsListed};
-    ghost use Rattle.heap_model.specs.State.{State};
-    ghost use Rattle.heap_model.specs.Run.{IsGood};
-    ghost use Rattle.heap_model.specs.Machine.{Stands};
-    ghost use Rattle.heap_model.specs.Extents.{IsTiling};
+    ghost use Rattle.machine_model.specs.State.{State};
+    ghost use Rattle.machine_model.specs.Run.{IsGood};
+    ghost use Rattle.machine_model.specs.Machine.{Stands};
+    ghost use Rattle.machine_model.specs.Extents.{IsTiling};
     ghost use Rattle.kernel_heap.specs.Kept.{is_always_answered};
     ghost use Rattle.kernel_heap.specs.Steps.{IsNewMachine, HasStepped, HasNotStepped};
 

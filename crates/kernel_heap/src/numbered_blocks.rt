@@ -3,7 +3,7 @@ ghost use Rattle.std.specs.Prelude.{◌≡◌, ◌≢◌, ◌+◌, ◌<◌, ◌�
 ghost use Rattle.kernel_heap.specs.Numbered.{live_at};
 ghost use Rattle.kernel_heap.specs.NumberedBlocks.{HaveEnded};
 
-use heap_model::Live;
+use machine_model::Live;
 use std::alloc::{AllocError, Global};
 use std::marker::Model;
 

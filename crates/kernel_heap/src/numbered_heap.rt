@@ -10,7 +10,7 @@ use crate::beside;
 use crate::numbered_blocks::NumberedBlocks;
 use dlmalloc::MallocError;
 use heap_memory::GrantFault;
-use heap_model::{Answer, Call, Live, Refusal, Region, RegionList, Reply, SlotList};
+use machine_model::{Answer, Call, Live, Refusal, Region, RegionList, Reply, SlotList};
 use paged_systems::PagedSystem;
 use sound_heap::Heap;
 use std::alloc::{AllocError, Global};

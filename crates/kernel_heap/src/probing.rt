@@ -1,12 +1,12 @@
 // The byte at an address, as an access sees it.
 ghost use Rattle.std.specs.Prelude.{◌≡◌, ℕ, is_some, false, Some};
-ghost use Rattle.heap_model.specs.State.{State};
+ghost use Rattle.machine_model.specs.State.{State};
 ghost use Rattle.paging_core.specs.PageBits.{bits_of};
 ghost use Rattle.paging_core.specs.ProcessorAccess.{place_grants, kind_bit, fault_code};
 ghost use Rattle.paging_core.specs.Walk.{place_with};
-ghost use Rattle.heap_model.specs.Probe.{is_access_granted};
-ghost use Rattle.heap_model.specs.Run.{IsGood};
-ghost use Rattle.heap_model.specs.Machine.{Stands, IsStep};
+ghost use Rattle.machine_model.specs.Probe.{is_access_granted};
+ghost use Rattle.machine_model.specs.Run.{IsGood};
+ghost use Rattle.machine_model.specs.Machine.{Stands, IsStep};
 ghost use Rattle.paged_systems.specs.System.{paged};
 ghost use Rattle.kernel_heap.specs.Machine.{seen_with, system_of};
 ghost use Rattle.kernel_heap.specs.Kept.{IsReachedByte};
@@ -14,7 +14,7 @@ ghost use Rattle.x86_flags.specs.PageFaultErrorCode.{page_fault_bits};
 
 use crate::numbered_heap::{NumberedHeap, refused};
 use bitflags::Flags;
-use heap_model::{Access, Answer, Call, PageFaultErrorCode, Refusal, Reply, Rights};
+use machine_model::{Access, Answer, Call, PageFaultErrorCode, Refusal, Reply, Rights};
 use paging_core::VirtAddr;
 
 /// Whether rights grant a kind of access.

@@ -5,7 +5,7 @@ ghost use Rattle.kernel_heap.specs.Runs.{AreServed};
 
 use crate::machine::Machine;
 use crate::run_error::RunError;
-use heap_model::{AnswerList, CallList, Config};
+use machine_model::{AnswerList, CallList, Config};
 use std::alloc::Global;
 
 /// The answers to a list of calls, one a call, and the machine after the last of them.

@@ -5,7 +5,7 @@ ghost use Rattle.kernel_heap.specs.Served.{HasServedCall, HasNotServed};
 ghost use Rattle.kernel_heap.specs.Kept.{is_always_answered};
 
 use crate::numbered_heap::NumberedHeap;
-use heap_model::{Answer, Call};
+use machine_model::{Answer, Call};
 use std::alloc::AllocError;
 
 impl NumberedHeap {

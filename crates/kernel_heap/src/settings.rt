@@ -3,7 +3,7 @@ ghost use Rattle.kernel_heap.specs.LaidOut.{IsNumberedSound};
 ghost use Rattle.kernel_heap.specs.Served.{HasServedCall};
 
 use crate::numbered_heap::NumberedHeap;
-use heap_model::{Answer, Call, Reply};
+use machine_model::{Answer, Call, Reply};
 
 impl NumberedHeap {
     /// Sets how many large chunks are freed between two release passes. It takes no memory.

@@ -3,7 +3,7 @@ ghost use Rattle.kernel_heap.specs.LaidOut.{IsNumberedSound};
 ghost use Rattle.kernel_heap.specs.Served.{IsServedOrNot};
 
 use crate::numbered_heap::NumberedHeap;
-use heap_model::{Answer, Call, RegionList, Reply};
+use machine_model::{Answer, Call, RegionList, Reply};
 use paged_systems::PagedSystem;
 use paging_core::{PageSize, Size4KiB};
 use std::alloc::AllocError;

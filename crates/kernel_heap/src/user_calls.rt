@@ -6,7 +6,7 @@ ghost use Rattle.kernel_heap.specs.Refusing.{map_refusal, unmap_refusal, IsRefus
 
 use crate::beside;
 use crate::numbered_heap::{NumberedHeap, refused};
-use heap_model::{Answer, Call, Refusal, Reply, Rights};
+use machine_model::{Answer, Call, Refusal, Reply, Rights};
 use mapped_regions::{MapFault, UnmapFault};
 use std::alloc::AllocError;
 

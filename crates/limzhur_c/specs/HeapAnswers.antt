@@ -6,10 +6,10 @@ use Rattle.heap_arena.specs.Arena.{regions_of, word_of}
 use Rattle.heap_arena.specs.declared.arena.Arena.{Arena}
 use Rattle.sound_heap.specs.Heap.{IsRequestRefused}
 use Rattle.sound_heap.specs.declared.heap_error.HeapError.{HeapError}
-use Rattle.heap_library.specs.Calls.{IsBlockGiven, IsBlockResized}
-use Rattle.heap_library.specs.Checked.{arena_follows, arena_refuses, arena_denies, arena_heap_state, KeepsWordsOutside}
-use Rattle.heap_library.specs.Library.{IsResizeRefused}
-use Rattle.heap_library.specs.Room.{IsRefused, IsRefusedResize}
+use Rattle.checked_heap.specs.Calls.{IsBlockGiven, IsBlockResized}
+use Rattle.checked_heap.specs.Checked.{arena_follows, arena_refuses, arena_denies, arena_heap_state, KeepsWordsOutside}
+use Rattle.checked_heap.specs.Library.{IsResizeRefused}
+use Rattle.checked_heap.specs.Room.{IsRefused, IsRefusedResize}
 
 -- C is told the address of a new block, or 0 if the request is refused: exactly if it has to be. Blocks stay apart.
 pub record IsRequestTold (old : Dlmalloc Arena) (size align : ℕ) (cleared : Bool) (answer : ℕ) (new : Dlmalloc Arena) : Type 0 where

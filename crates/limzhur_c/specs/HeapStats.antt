@@ -3,8 +3,8 @@ use Rattle.std.specs.Prelude.{◌≡◌, ◌+◌}
 use Rattle.dlmalloc.specs.declared.heap.Dlmalloc.{Dlmalloc}
 use Rattle.heap_arena.specs.Arena.{IsAbove}
 use Rattle.heap_arena.specs.declared.arena.Arena.{Arena}
-use Rattle.heap_library.specs.Checked.{arena_heap_state}
-use Rattle.heap_library.specs.Counted.{HasBlocks}
+use Rattle.checked_heap.specs.Checked.{arena_heap_state}
+use Rattle.checked_heap.specs.Counted.{HasBlocks}
 use Rattle.limzhur_c.specs.declared.exports.Stats.{Stats}
 
 -- A heap has these bytes in use, from the first word of its arena on, and this many blocks.

@@ -6,9 +6,9 @@ ghost use Rattle.dlmalloc.specs.Blocks.{ArePlaced};
 ghost use Rattle.dlmalloc.specs.AfterFree.{IsFreed};
 ghost use Rattle.dlmalloc.specs.Shortened.{IsTrimmed};
 ghost use Rattle.heap_arena.specs.Arena.{regions_of, word_of};
-ghost use Rattle.heap_library.specs.Answers.{IsOnlySet};
+ghost use Rattle.checked_heap.specs.Answers.{IsOnlySet};
 ghost use Rattle.sound_heap.specs.Heap.{HasBlock, usable, IsIntact};
-ghost use Rattle.heap_library.specs.Checked.{arena_follows, arena_heap_state, KeepsWordsOutside};
+ghost use Rattle.checked_heap.specs.Checked.{arena_follows, arena_heap_state, KeepsWordsOutside};
 ghost use Rattle.limzhur_c.specs.HeapAnswers.{IsRequestTold, IsResizeTold};
 ghost use Rattle.limzhur_c.specs.HeapStats.{HoldsStats};
 

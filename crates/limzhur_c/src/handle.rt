@@ -5,9 +5,9 @@ ghost use Rattle.std.specs.Ptr.{lies_at};
 ghost use denote.Signature.{static_lft};
 ghost use Rattle.dlmalloc.specs.declared.heap.Dlmalloc.{Dlmalloc};
 ghost use Rattle.heap_arena.specs.declared.arena.Arena.{Arena};
-ghost use Rattle.heap_library.specs.contracts.checked.CheckedHeap.{the_row as heap_row};
+ghost use Rattle.checked_heap.specs.contracts.checked.CheckedHeap.{the_row as heap_row};
 
-use heap_library::CheckedHeap;
+use checked_heap::CheckedHeap;
 use std::marker::Model;
 
 /// A heap behind a pointer. Whoever has the handle has the heap, and all of the memory that the heap was given.

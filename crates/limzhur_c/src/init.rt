@@ -9,12 +9,12 @@ ghost use denote.Signature.{static_lft};
 ghost use Rattle.dlmalloc.specs.Heap.{IsGranularity};
 ghost use Rattle.dlmalloc.specs.declared.heap.Dlmalloc.{Dlmalloc};
 ghost use Rattle.heap_arena.specs.declared.arena.Arena.{Arena};
-ghost use Rattle.heap_library.specs.contracts.checked.CheckedHeap.{the_row as heap_row};
-ghost use Rattle.heap_library.specs.Checked.{IsCleared};
-ghost use Rattle.heap_library.specs.Begun.{FitsAt, IsBegun};
+ghost use Rattle.checked_heap.specs.contracts.checked.CheckedHeap.{the_row as heap_row};
+ghost use Rattle.checked_heap.specs.Checked.{IsCleared};
+ghost use Rattle.checked_heap.specs.Begun.{FitsAt, IsBegun};
 ghost use Rattle.std.specs.Mem.{type_size};
 
-use heap_library::CheckedHeap;
+use checked_heap::CheckedHeap;
 
 /// How many bytes the room of a heap has to have.
 #[unsafe(no_mangle)]

@@ -3,12 +3,12 @@ use Rattle.std.proofs.Common.{◌≢◌, fold, [], ◌∷◌, ◌≡◌, ◌∙�
 use Rattle.std.proofs.lemmas.Bool.{cases_lt}
 use Rattle.std.proofs.lemmas.Bool.Decides.{nat_tests}
 use Rattle.std.specs.List.{AllByRecursion, list_any}
-use Rattle.heap_model.specs.declared.region.Region.{Region}
-use Rattle.heap_model.specs.State.{State, end_of_region}
-use Rattle.heap_model.specs.Place.{with_region, meets, meets_any, all_regions}
-use Rattle.heap_model.specs.Run.{AreRegionsInOrder}
-use Rattle.heap_model.proofs.Booleans.{or_neither, neither_or}
-use Rattle.heap_model.proofs.Regions.{any_all, any_with, all_with}
+use Rattle.machine_model.specs.declared.region.Region.{Region}
+use Rattle.machine_model.specs.State.{State, end_of_region}
+use Rattle.machine_model.specs.Place.{with_region, meets, meets_any, all_regions}
+use Rattle.machine_model.specs.Run.{AreRegionsInOrder}
+use Rattle.machine_model.proofs.Booleans.{or_neither, neither_or}
+use Rattle.machine_model.proofs.Regions.{any_all, any_with, all_with}
 use Rattle.mapped_regions.specs.Regions.{meets_heap, is_at, without_region}
 
 -- ---- a region that joins the heap of a state joins all of its regions

@@ -4,10 +4,10 @@ use Rattle.std.specs.Prelude.{if◌then◌else◌}
 use Rattle.std.specs.List.{AllByRecursion, list_any}
 use Rattle.std.proofs.lemmas.Bool.{cases_lt}
 use Rattle.std.proofs.lemmas.Bool.Decides.{nat_tests}
-use Rattle.heap_model.specs.declared.region.Region.{Region}
-use Rattle.heap_model.specs.State.{end_of_region, is_within, total_pages}
-use Rattle.heap_model.specs.Place.{meets}
-use Rattle.heap_model.proofs.Booleans.{or_cases}
+use Rattle.machine_model.specs.declared.region.Region.{Region}
+use Rattle.machine_model.specs.State.{end_of_region, is_within, total_pages}
+use Rattle.machine_model.specs.Place.{meets}
+use Rattle.machine_model.proofs.Booleans.{or_cases}
 use Rattle.mapped_regions.specs.Regions.{AreLaid, AreHeld, IsRegionBoundary, cut_regions}
 use Rattle.mapped_regions.specs.Mapped.{IsPageRange, IsRegion}
 

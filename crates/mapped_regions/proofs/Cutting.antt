@@ -3,9 +3,9 @@ use Rattle.std.proofs.Common.{◌≡◌, ◌∙◌, ap, sym, refl, ℕ, ◌+◌,
 use Rattle.std.specs.Prelude.{if◌then◌else◌}
 use Rattle.std.proofs.lemmas.Bool.Decides.{nat_tests}
 use Rattle.std.specs.List.{list_any}
-use Rattle.heap_model.specs.declared.region.Region.{Region}
-use Rattle.heap_model.specs.State.{end_of_region}
-use Rattle.heap_model.specs.Place.{meets}
+use Rattle.machine_model.specs.declared.region.Region.{Region}
+use Rattle.machine_model.specs.State.{end_of_region}
+use Rattle.machine_model.specs.Place.{meets}
 use Rattle.mapped_regions.specs.Regions.{AreLaid, is_at, without_region, with_page_count, cut_regions}
 
 -- how many regions meet n pages from an address on

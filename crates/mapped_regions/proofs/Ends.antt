@@ -7,14 +7,14 @@ use Rattle.paging_core.specs.Prefix.{prefix_of}
 use Rattle.paging_core.specs.Walk.{large_of}
 use Rattle.page_ranges.specs.RangeUnmapping.{NoLargePageReachesOver, cuts_large_page}
 use Rattle.page_ranges.proofs.Unmapped.{cut_or_not}
-use Rattle.heap_model.specs.declared.region.Region.{Region}
-use Rattle.heap_model.specs.State.{end_of_region}
-use Rattle.heap_model.specs.Place.{meets}
-use Rattle.heap_model.specs.Slots.{has_whole, is_whole_in}
-use Rattle.heap_model.specs.Machine.{Paged}
-use Rattle.heap_model.proofs.Booleans.{or_cases, or_left, or_right}
-use Rattle.heap_model.proofs.Regions.{page_canonical}
-use Rattle.heap_model.proofs.Slots.{page_slot, page_number, whole_true, whole_bounds}
+use Rattle.machine_model.specs.declared.region.Region.{Region}
+use Rattle.machine_model.specs.State.{end_of_region}
+use Rattle.machine_model.specs.Place.{meets}
+use Rattle.machine_model.specs.Slots.{has_whole, is_whole_in}
+use Rattle.machine_model.specs.Machine.{Paged}
+use Rattle.machine_model.proofs.Booleans.{or_cases, or_left, or_right}
+use Rattle.machine_model.proofs.Regions.{page_canonical}
+use Rattle.machine_model.proofs.Slots.{page_slot, page_number, whole_true, whole_bounds}
 use Rattle.mapped_regions.specs.Regions.{AreLaid, IsRegionBoundary, is_at, without_region, cut_regions}
 use Rattle.mapped_regions.specs.Mapped.{IsPageRange, IsRegion, IsMapped}
 

@@ -3,9 +3,9 @@ use Rattle.std.proofs.Common.{◌≡◌, refl, ℕ, ◌+◌, ◌-◌, ◌*◌, �
 use Rattle.std.proofs.lemmas.Bool.{cases_lt}
 use Rattle.std.proofs.lemmas.Bool.Decides.{nat_tests}
 use Rattle.std.specs.List.{list_any}
-use Rattle.heap_model.specs.declared.region.Region.{Region}
-use Rattle.heap_model.specs.State.{is_within}
-use Rattle.heap_model.specs.Place.{meets, meets_any, IsFit, IsPlace, HasNoPlace}
+use Rattle.machine_model.specs.declared.region.Region.{Region}
+use Rattle.machine_model.specs.State.{is_within}
+use Rattle.machine_model.specs.Place.{meets, meets_any, IsFit, IsPlace, HasNoPlace}
 use Rattle.mapped_regions.specs.Regions.{AreHeld, IsHint, IsLowest}
 
 -- pages whose first address lies in a region meet it

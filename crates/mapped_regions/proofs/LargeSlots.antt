@@ -6,10 +6,10 @@ use Rattle.std.proofs.lemmas.Bool.{cases_eq}
 use Rattle.std.proofs.lemmas.Bool.Decides.{nat_tests}
 use Rattle.paging_core.specs.Walk.{large_of}
 use Rattle.paging_core.proofs.Reached.{some_not_none}
-use Rattle.heap_model.specs.Slots.{IsSlot, IsSlotOf, slot_number, has_slot, AreAscending}
-use Rattle.heap_model.specs.Machine.{AreLargeSlots}
-use Rattle.heap_model.proofs.Booleans.{or_left, or_right}
-use Rattle.heap_model.proofs.Slots.{all_append, slot_all, has_slot-append}
+use Rattle.machine_model.specs.Slots.{IsSlot, IsSlotOf, slot_number, has_slot, AreAscending}
+use Rattle.machine_model.specs.Machine.{AreLargeSlots}
+use Rattle.machine_model.proofs.Booleans.{or_left, or_right}
+use Rattle.machine_model.proofs.Slots.{all_append, slot_all, has_slot-append}
 
 all_are : (P Q : ℕ → Type 0) (slots : List ℕ) → ((slot : ℕ) → P slot → Q slot) → AllByRecursion P slots → AllByRecursion Q slots
 all_are P Q [] each all = tt

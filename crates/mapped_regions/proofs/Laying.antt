@@ -1,11 +1,11 @@
 -- Regions that lie by address lie so when one joins, when one leaves, and when pages are cut out of them.
 use Rattle.std.proofs.Common.{◌≡◌, ℕ, ◌+◌, ◌-◌, ◌*◌, ◌/◌, ◌%◌, ◌<◌, ◌≤◌, nat_lt, inl, inr, Bool, true, false, cond, List, [], ◌∷◌, refl, arith}
 use Rattle.std.proofs.lemmas.Bool.Decides.{nat_tests}
-use Rattle.heap_model.specs.declared.region.Region.{Region}
-use Rattle.heap_model.specs.State.{end_of_region}
-use Rattle.heap_model.specs.Place.{meets, meets_any, with_region}
-use Rattle.heap_model.proofs.Booleans.{neither_or}
-use Rattle.heap_model.proofs.Regions.{beside}
+use Rattle.machine_model.specs.declared.region.Region.{Region}
+use Rattle.machine_model.specs.State.{end_of_region}
+use Rattle.machine_model.specs.Place.{meets, meets_any, with_region}
+use Rattle.machine_model.proofs.Booleans.{neither_or}
+use Rattle.machine_model.proofs.Regions.{beside}
 use Rattle.mapped_regions.specs.Regions.{AreLaid, is_at, without_region, cut_regions}
 
 pub laid_from : (low from to : ℕ) (list : List Region) → low ≤ from → AreLaid from list to → AreLaid low list to

@@ -8,11 +8,11 @@ use Rattle.paging_core.specs.Walk.{Place, walk_of, mapped_place}
 use Rattle.paging_core.specs.PageBits.{bits_of, bits_at}
 use Rattle.paging_core.specs.declared.page_table.Rights.{Rights}
 use Rattle.paging_core.specs.declared.page_walk.Mapped.{Mapped}
-use Rattle.heap_model.specs.declared.region.Region.{Region}
-use Rattle.heap_model.specs.State.{is_within}
-use Rattle.heap_model.specs.Machine.{Paged, rights_of}
-use Rattle.heap_model.proofs.Found.{rights_alike}
-use Rattle.heap_model.proofs.Regions.{within, within_bounds}
+use Rattle.machine_model.specs.declared.region.Region.{Region}
+use Rattle.machine_model.specs.State.{is_within}
+use Rattle.machine_model.specs.Machine.{Paged, rights_of}
+use Rattle.machine_model.proofs.Found.{rights_alike}
+use Rattle.machine_model.proofs.Regions.{within, within_bounds}
 use Rattle.mapped_regions.specs.Regions.{kind_at}
 use Rattle.mapped_regions.specs.Mapped.{IsRegion, IsMapped}
 use Rattle.mapped_regions.proofs.Mapped.{some_mapped}

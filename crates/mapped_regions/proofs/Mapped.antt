@@ -13,13 +13,13 @@ use Rattle.paging_core.specs.Tree.{IsTree}
 use Rattle.paging_core.proofs.Reached.{some_not_none}
 use Rattle.paging_core.specs.declared.page_table.Rights.{Rights}
 use Rattle.page_ranges.specs.RangeUnmapping.{AreUnmapped, cut_tables}
-use Rattle.heap_model.specs.declared.region.Region.{Region}
-use Rattle.heap_model.specs.State.{is_within, total_pages}
-use Rattle.heap_model.specs.Place.{meets_any}
-use Rattle.heap_model.specs.Slots.{IsSlot, slot_number, has_whole, is_whole_in}
-use Rattle.heap_model.specs.Machine.{Paged, ArePagesGone}
-use Rattle.heap_model.proofs.Regions.{within, within_bounds, all_with, pages_with, none_within, find_none, listed, any_with, page_canonical}
-use Rattle.heap_model.proofs.Slots.{same_slot, page_slot, page_number, slot_among, whole_true}
+use Rattle.machine_model.specs.declared.region.Region.{Region}
+use Rattle.machine_model.specs.State.{is_within, total_pages}
+use Rattle.machine_model.specs.Place.{meets_any}
+use Rattle.machine_model.specs.Slots.{IsSlot, slot_number, has_whole, is_whole_in}
+use Rattle.machine_model.specs.Machine.{Paged, ArePagesGone}
+use Rattle.machine_model.proofs.Regions.{within, within_bounds, all_with, pages_with, none_within, find_none, listed, any_with, page_canonical}
+use Rattle.machine_model.proofs.Slots.{same_slot, page_slot, page_number, slot_among, whole_true}
 use Rattle.mapped_regions.specs.Regions.{kind_at, is_at, AreHeld, IsPutIn, AreTakenOut}
 use Rattle.mapped_regions.specs.Mapped.{IsPageRange, IsRegion, IsMapped, CanMap, IsRegionJoined}
 

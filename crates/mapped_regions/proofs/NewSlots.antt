@@ -10,9 +10,9 @@ use Rattle.paging_core.proofs.Reach.{small_slot}
 use Rattle.paging_core.proofs.Reached.{some_not_none}
 use Rattle.paging_core.proofs.Prefixes.{walk_reach}
 use Rattle.page_ranges.specs.RangeMapping.{IsOpenSlot, IsRangeMapped}
-use Rattle.heap_model.specs.Slots.{IsSlotOf, slot_number}
-use Rattle.heap_model.specs.Machine.{Paged}
-use Rattle.heap_model.proofs.Slots.{same_slot, slot_among}
+use Rattle.machine_model.specs.Slots.{IsSlotOf, slot_number}
+use Rattle.machine_model.specs.Machine.{Paged}
+use Rattle.machine_model.proofs.Slots.{same_slot, slot_among}
 use Rattle.mapped_regions.specs.Mapped.{IsMapped, CanMap}
 use Rattle.mapped_regions.proofs.Mapped.{unmapped}
 

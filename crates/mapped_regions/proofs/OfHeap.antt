@@ -1,9 +1,9 @@
 -- A walk over the regions that pages meet, in search of one of the heap.
 use Rattle.std.proofs.Common.{◌≡◌, ◌∙◌, ap, refl, ℕ, ◌-◌, ◌*◌, ◌<◌, ◌≤◌, ◌&&◌, Bool, true, false, cond, List, [], ◌∷◌, arith, Option, Some, None, find}
 use Rattle.std.proofs.lemmas.Bool.Decides.{nat_tests}
-use Rattle.heap_model.specs.declared.region.Region.{Region}
-use Rattle.heap_model.specs.State.{end_of_region}
-use Rattle.heap_model.specs.Place.{meets}
+use Rattle.machine_model.specs.declared.region.Region.{Region}
+use Rattle.machine_model.specs.State.{end_of_region}
+use Rattle.machine_model.specs.Place.{meets}
 use Rattle.mapped_regions.specs.Regions.{AreLaid, meets_heap}
 use Rattle.mapped_regions.proofs.Cutting.{found}
 

@@ -4,12 +4,12 @@ use Rattle.std.proofs.lemmas.Bool.{cases_lt}
 use Rattle.std.proofs.lemmas.Bool.Decides.{nat_tests}
 use Rattle.std.specs.Prelude.{nat_lt}
 use Rattle.std.specs.Ordering.{is_lt, nat_cmp}
-use Rattle.heap_model.specs.Place.{meets, meets_any}
+use Rattle.machine_model.specs.Place.{meets, meets_any}
 use Rattle.meminterval.specs.declared.interval.Interval.{Interval}
 use Rattle.meminterval.specs.Entries.{AllItems, first, last, or_else}
 use Rattle.meminterval.specs.Interval.{starts_below, starts_from}
 use Rattle.mapped_regions.specs.declared.region_tree.Kind.{Kind}
-use Rattle.heap_model.specs.Place.{IsFit, IsPlace, HasNoPlace}
+use Rattle.machine_model.specs.Place.{IsFit, IsPlace, HasNoPlace}
 use Rattle.mapped_regions.specs.Pairs.{region_of, pair_regions, Follow}
 
 pub below : (a b : ℕ) → is_lt (nat_cmp a b) ≡ nat_lt a b

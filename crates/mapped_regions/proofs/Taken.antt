@@ -3,9 +3,9 @@ use Rattle.std.proofs.Common.{◌||◌, ◌≡◌, ◌∙◌, refl, ℕ, ◌+◌
 use Rattle.std.proofs.lemmas.Bool.{cases_lt}
 use Rattle.std.proofs.lemmas.Bool.Decides.{nat_tests}
 use Rattle.std.specs.List.{list_any}
-use Rattle.heap_model.specs.declared.region.Region.{Region}
-use Rattle.heap_model.specs.State.{end_of_region, is_within}
-use Rattle.heap_model.specs.Place.{meets, meets_any, with_region}
+use Rattle.machine_model.specs.declared.region.Region.{Region}
+use Rattle.machine_model.specs.State.{end_of_region, is_within}
+use Rattle.machine_model.specs.Place.{meets, meets_any, with_region}
 use Rattle.mapped_regions.specs.Regions.{AreLaid, IsRegionBoundary, AreTakenOut, IsPutIn, is_at, without_region, cut_regions, kind_at}
 
 -- a region that the pages miss holds no address of theirs

@@ -11,13 +11,13 @@ use Rattle.paging_core.specs.Walk.{reach, large_of, walk_of, reached, Place}
 use Rattle.paging_core.specs.PageBits.{bits_of, bits_at}
 use Rattle.paging_core.specs.Tree.{IsTree}
 use Rattle.paging_core.specs.Missing.{missing_of}
-use Rattle.heap_model.specs.declared.region.Region.{Region}
-use Rattle.heap_model.specs.State.{end_of_region, is_within, total_pages}
-use Rattle.heap_model.specs.Place.{meets_any, with_region}
-use Rattle.heap_model.specs.Room.{heap_rights}
+use Rattle.machine_model.specs.declared.region.Region.{Region}
+use Rattle.machine_model.specs.State.{end_of_region, is_within, total_pages}
+use Rattle.machine_model.specs.Place.{meets_any, with_region}
+use Rattle.machine_model.specs.Room.{heap_rights}
 use Rattle.page_ranges.specs.RangeUnmapping.{cuts_large_page}
-use Rattle.heap_model.specs.Slots.{IsSlot, IsSlotOf, slot_number, is_whole_in}
-use Rattle.heap_model.specs.Machine.{Paged, HasGotPages, ArePagesGone}
+use Rattle.machine_model.specs.Slots.{IsSlot, IsSlotOf, slot_number, is_whole_in}
+use Rattle.machine_model.specs.Machine.{Paged, HasGotPages, ArePagesGone}
 use Rattle.mapped_regions.specs.Regions.{kind_at, without_region, cut_regions}
 
 -- whole pages from an address on: at least one, and all in one canonical half

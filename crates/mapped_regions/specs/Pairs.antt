@@ -1,6 +1,6 @@
 -- What the pairs of a tree are, from left to right: intervals of page numbers, each with the kind of its region.
 use Rattle.std.specs.Prelude.{◌≡◌, ℕ, ◌+◌, ◌-◌, ◌*◌, ◌^◌, ◌<◌, ◌≤◌, List, [], ◌∷◌, map}
-use Rattle.heap_model.specs.declared.region.Region.{Region}
+use Rattle.machine_model.specs.declared.region.Region.{Region}
 use Rattle.meminterval.specs.declared.interval.Interval.{Interval}
 use Rattle.mapped_regions.specs.Regions.{AreHeld}
 use Rattle.mapped_regions.specs.declared.region_tree.Kind.{Kind}

@@ -3,10 +3,10 @@ use Rattle.std.specs.Prelude.{◌≡◌, ℕ, ◌+◌, ◌-◌, ◌*◌, ◌/◌
 use Rattle.std.specs.List.{list_any, AllByRecursion}
 use Rattle.std.specs.declared.vec.Vec.{Vec}
 use Rattle.paging_core.specs.declared.page_table.Rights.{Rights}
-use Rattle.heap_model.specs.declared.region.Region.{Region}
-use Rattle.heap_model.specs.State.{end_of_region, is_within}
-use Rattle.heap_model.specs.Place.{meets, IsPlace, HasNoPlace}
-pub use Rattle.heap_model.specs.Place.{is_at, without_region}
+use Rattle.machine_model.specs.declared.region.Region.{Region}
+use Rattle.machine_model.specs.State.{end_of_region, is_within}
+use Rattle.machine_model.specs.Place.{meets, IsPlace, HasNoPlace}
+pub use Rattle.machine_model.specs.Place.{is_at, without_region}
 
 -- ---- how regions lie
 

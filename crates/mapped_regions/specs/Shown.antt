@@ -1,6 +1,6 @@
 -- What contracts see of mapped regions.
 use Rattle.std.specs.Prelude.{◌≡◌, Result, OnErr}
-use Rattle.heap_model.specs.Machine.{Paged}
+use Rattle.machine_model.specs.Machine.{Paged}
 use Rattle.mapped_regions.specs.declared.regions.MappedRegions.{MappedRegions}
 
 -- what the definitions see of mapped regions

@@ -1,9 +1,9 @@
 -- When a region of the user is mapped or unmapped, and why it is not: the causes in their order.
 use Rattle.std.specs.Prelude.{ℕ, ◌/◌, Bool, not, ◌&&◌, IsTrue, IsFalse}
 use Rattle.std.specs.List.{list_any}
-use Rattle.heap_model.specs.Place.{meets_any}
-use Rattle.heap_model.specs.Machine.{Paged}
-pub use Rattle.heap_model.specs.Room.{user_region}
+use Rattle.machine_model.specs.Place.{meets_any}
+use Rattle.machine_model.specs.Machine.{Paged}
+pub use Rattle.machine_model.specs.Room.{user_region}
 use Rattle.mapped_regions.specs.Regions.{is_at, meets_heap}
 use Rattle.mapped_regions.specs.declared.map_fault.MapFault.{MapFault}
 use Rattle.mapped_regions.specs.declared.map_fault.MapFault.TheVariants as Map

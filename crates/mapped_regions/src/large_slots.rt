@@ -2,12 +2,12 @@
 ghost use Rattle.std.specs.Prelude.{◌≡◌, ℕ, ◌+◌, ◌*◌, ◌/◌, ◌^◌, ◌<◌, ◌≤◌, None};
 ghost use Rattle.paging_core.specs.Memory.{frame_count};
 ghost use Rattle.paging_core.specs.Walk.{large_of};
-ghost use Rattle.heap_model.specs.Slots.{IsSlotOf, slot_number};
-ghost use Rattle.heap_model.specs.Machine.{AreLargeSlots};
+ghost use Rattle.machine_model.specs.Slots.{IsSlotOf, slot_number};
+ghost use Rattle.machine_model.specs.Machine.{AreLargeSlots};
 ghost use Rattle.mapped_regions.specs.Mapped.{IsPageRange};
 ghost use Rattle.mapped_regions.specs.Regions.{HasPlaces};
 
-use heap_model::Region;
+use machine_model::Region;
 use paging_core::{Frames, Page, PageSize, PhysFrame, Size2MiB, Size4KiB, VirtAddr, large_page};
 
 /// Lists the slots that lie whole in the region and are mapped by one entry each. None of them is `stop`, in counts of

@@ -2,12 +2,12 @@
 ghost use Rattle.std.specs.Prelude.{◌≡◌, ◌+◌, ◌-◌, ◌*◌, ◌^◌, ◌<◌, ◌≤◌, IfNone, [], ◌∷◌, ◌++◌};
 ghost use Rattle.std.specs.Prelude.{IsFalse, IsTrue, OnOk, OnErr, filter, find, map, length, vec_len, vec_capacity};
 ghost use Rattle.std.specs.List.{list_any};
-ghost use Rattle.heap_model.specs.Place.{meets, meets_any, with_region};
+ghost use Rattle.machine_model.specs.Place.{meets, meets_any, with_region};
 ghost use Rattle.meminterval.specs.Tree.{entries};
 ghost use Rattle.mapped_regions.specs.Pairs.{region_of, pair_regions, ArePages, ArePagesOf, Follow};
 ghost use Rattle.mapped_regions.specs.Regions.{AreLaid, AreHeld, HasPlaces, HasWholePages, IsHint, IsLowest, IsRegionBoundary, AreTakenOut, IsPutIn, is_at, meets_heap, without_region, with_page_count, cut_regions};
 
-use heap_model::{Region, RegionList, Rights};
+use machine_model::{Region, RegionList, Rights};
 use meminterval::{Interval, IntervalTree};
 use paging_core::{PageSize, Size4KiB};
 use std::alloc::{AllocError, Global};
@@ -100,7 +100,7 @@ pub struct RegionTree {
 
 impl Model for RegionTree {
     ghost use Rattle.std.specs.Prelude.{List, ◌^◌};
-    ghost use Rattle.heap_model.specs.declared.region.Region.{Region};
+    ghost use Rattle.machine_model.specs.declared.region.Region.{Region};
     ghost use Rattle.meminterval.specs.Tree.{entries};
     ghost use Rattle.mapped_regions.specs.Pairs.{pair_regions, IsTreeKept};
 

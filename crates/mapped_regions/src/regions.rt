@@ -7,8 +7,8 @@ ghost use Rattle.paging_core.specs.Memory.{byte_of, AreWordsWritten};
 ghost use Rattle.paging_core.specs.Pool.{free_count};
 ghost use Rattle.paging_core.specs.Walk.{walk_of, reached};
 ghost use Rattle.paging_core.specs.Tree.{IsTree};
-ghost use Rattle.heap_model.specs.Place.{IsPlace, HasNoPlace};
-ghost use Rattle.heap_model.specs.Machine.{rights_of};
+ghost use Rattle.machine_model.specs.Place.{IsPlace, HasNoPlace};
+ghost use Rattle.machine_model.specs.Machine.{rights_of};
 ghost use Rattle.mapped_regions.specs.Regions.{is_at, kind_at, AreHeld, HasPlaces, IsRegionBoundary};
 ghost use Rattle.mapped_regions.specs.MetSlots.{AreMet, AreMet-prop};
 ghost use Rattle.mapped_regions.specs.Mapped.{IsPageRange, IsMapped, IsMapped-prop};
@@ -16,7 +16,7 @@ ghost use Rattle.mapped_regions.specs.Mapped.{IsPageRange, IsMapped, IsMapped-pr
 use crate::large_slots::list_large;
 use crate::met_slots::MetSlots;
 use crate::region_tree::RegionTree;
-use heap_model::{Region, RegionList, Rights, SlotList};
+use machine_model::{Region, RegionList, Rights, SlotList};
 use page_ranges::{map_pages, unmap_pages};
 use paging_core::{
     FramePool, Frames, Page, PageSize, PhysFrame, Size2MiB, Size4KiB, VirtAddr, load_word,

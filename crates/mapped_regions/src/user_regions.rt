@@ -6,7 +6,7 @@ ghost use Rattle.mapped_regions.specs.UserRegions.{user_region, IsMapRefused, Is
 
 use crate::map_fault::{MapFault, UnmapFault};
 use crate::regions::MappedRegions;
-use heap_model::{Region, Rights};
+use machine_model::{Region, Rights};
 use paging_core::{PageSize, Size4KiB};
 
 /// The pages of a canonical half.

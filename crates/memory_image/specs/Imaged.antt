@@ -1,7 +1,7 @@
 -- What the command does with its words.
 use Rattle.std.specs.Prelude.{◌≡◌, ◌≤◌, ◌<◌, ◌+◌, ◌^◌, ◌⊎◌, ◌↔◌, ℕ, List, [], ◌++◌, length, unwrap_or, Option, Some, None, IsSome, IfSome}
 use Rattle.std.specs.Io.KnownBytes.{Appends}
-use Rattle.heap_model.specs.declared.config.Config.{Config}
+use Rattle.machine_model.specs.declared.config.Config.{Config}
 use Rattle.kernel_heap.specs.Config.{IsGoodConfig}
 use Rattle.kernel_heap.specs.declared.machine.Machine.{Machine}
 use Rattle.kernel_heap.specs.Steps.{IsNewMachine}

@@ -1,6 +1,6 @@
 -- Laws of traces, one after another.
 use Rattle.std.proofs.Common.{ℕ, List, [], ◌∷◌, ◌++◌, Option, refl, sym, ◌∙◌, ap, subst, append_assoc}
-use Rattle.heap_model.specs.declared.call.Call.{Call}
+use Rattle.machine_model.specs.declared.call.Call.{Call}
 use Rattle.kernel_heap.specs.declared.machine.Machine.{Machine}
 use Rattle.memory_image.specs.declared.tracing.Traced.{Traced}
 use Rattle.memory_image.specs.Traced.{IsTracing, AreTraced}

@@ -3,7 +3,7 @@ use Rattle.std.specs.Prelude.{ℕ, ◌+◌, ◌*◌, ◌/◌, ◌%◌, List, ◌
 use Rattle.std.specs.Option.{option_map}
 use Rattle.paging_core.specs.Address.{is_canonical}
 use Rattle.paging_core.specs.Walk.{walk_of}
-use Rattle.heap_model.specs.Machine.{Paged}
+use Rattle.machine_model.specs.Machine.{Paged}
 use Rattle.heap_program.specs.Text.{hexadecimal}
 use Rattle.kernel_heap.specs.Machine.{system_of}
 use Rattle.paged_systems.specs.System.{paged}

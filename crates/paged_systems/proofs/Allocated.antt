@@ -6,9 +6,9 @@ use Rattle.paging_core.specs.PageBits.{bits_of}
 use Rattle.heap_memory.specs.declared.grant.Grant.{Grant}
 use Rattle.heap_memory.specs.declared.grant.GrantFault.{GrantFault}
 use Rattle.heap_memory.specs.Regions.{IsWordOf, IsApart, IsGoodGrant, with_grant}
-use Rattle.heap_model.specs.Request.{pages_in}
-use Rattle.heap_model.specs.Room.{heap_region, heap_rights}
-use Rattle.heap_model.specs.Machine.{Paged, OnlyHeapBytesChange}
+use Rattle.machine_model.specs.Request.{pages_in}
+use Rattle.machine_model.specs.Room.{heap_region, heap_rights}
+use Rattle.machine_model.specs.Machine.{Paged, OnlyHeapBytesChange}
 use Rattle.paged_systems.specs.Follows.{still_none}
 use Rattle.paged_systems.specs.Grants.{IsGrantSeen, IsDenialSeen}
 use Rattle.paged_systems.specs.Layout.{IsPagedKept, IsGrantedFor, MayDeny}

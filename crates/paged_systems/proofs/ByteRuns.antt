@@ -6,7 +6,7 @@ use Rattle.std.proofs.lemmas.List.{get_or_append_left, get_or-append_right, get_
 use Rattle.paging_core.specs.Walk.{reached}
 use Rattle.heap_memory.specs.Regions.{IsWordOf}
 use Rattle.heap_memory.specs.Words.{IsStored}
-use Rattle.heap_model.specs.Machine.{Paged, OnlyHeapBytesChange}
+use Rattle.machine_model.specs.Machine.{Paged, OnlyHeapBytesChange}
 use Rattle.paged_systems.specs.Layout.{IsPagedKept}
 use Rattle.paged_systems.specs.Words.{grants_of}
 use Rattle.mapped_regions.specs.Mapped.{word_reached}

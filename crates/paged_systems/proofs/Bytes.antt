@@ -10,8 +10,8 @@ use Rattle.paging_core.specs.Memory.{word_at, byte_of}
 use Rattle.paging_core.specs.Walk.{walk_of, reached}
 use Rattle.heap_memory.specs.Regions.{is_granted, IsWordOf}
 use Rattle.heap_memory.specs.Words.{IsStored, with_byte}
-use Rattle.heap_model.specs.Machine.{Paged, OnlyHeapBytesChange}
-use Rattle.heap_model.proofs.Booleans.{or_cases}
+use Rattle.machine_model.specs.Machine.{Paged, OnlyHeapBytesChange}
+use Rattle.machine_model.proofs.Booleans.{or_cases}
 use Rattle.paged_systems.specs.Layout.{IsPagedKept}
 use Rattle.paged_systems.specs.Words.{heap_regions, grants_of}
 use Rattle.mapped_regions.specs.Mapped.{word_reached}

@@ -1,8 +1,8 @@
 -- Pages are granted at their place.
 use Rattle.std.proofs.Common.{◌≡◌, ℕ, ◌^◌, arith, refl, sym, subst, Result, Ok, Err, OnOk, OnErr}
-use Rattle.heap_model.specs.declared.region.Region.{Region}
-use Rattle.heap_model.specs.Room.{heap_region}
-use Rattle.heap_model.specs.Machine.{Paged}
+use Rattle.machine_model.specs.declared.region.Region.{Region}
+use Rattle.machine_model.specs.Room.{heap_region}
+use Rattle.machine_model.specs.Machine.{Paged}
 use Rattle.mapped_regions.specs.Regions.{AreLaid}
 use Rattle.mapped_regions.specs.Mapped.{IsMapped, IsRegion, CanMap, IsRegionJoined, IsLeft}
 use Rattle.mapped_regions.proofs.Laying.{laid_with, laid_without}

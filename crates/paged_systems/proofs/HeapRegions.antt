@@ -5,14 +5,14 @@ use Rattle.std.proofs.lemmas.Bool.Decides.{nat_tests}
 use Rattle.paging_core.specs.Address.{is_canonical}
 use Rattle.heap_memory.specs.declared.grant.Grant.{Grant}
 use Rattle.heap_memory.specs.Regions.{is_granted, IsApart, with_grant}
-use Rattle.heap_model.specs.declared.region.Region.{Region}
-use Rattle.heap_model.specs.State.{State, end_of_region, is_within}
-use Rattle.heap_model.specs.Place.{meets, meets_any, with_region, all_regions}
-use Rattle.heap_model.specs.Room.{heap_region}
-use Rattle.heap_model.specs.Run.{IsGood, IsHeapRegion, IsUserRegion}
-use Rattle.heap_model.specs.Machine.{is_of_user}
-use Rattle.heap_model.proofs.Booleans.{or_left, or_right, or_cases, neither_or}
-use Rattle.heap_model.proofs.Regions.{within, within_bounds, beside}
+use Rattle.machine_model.specs.declared.region.Region.{Region}
+use Rattle.machine_model.specs.State.{State, end_of_region, is_within}
+use Rattle.machine_model.specs.Place.{meets, meets_any, with_region, all_regions}
+use Rattle.machine_model.specs.Room.{heap_region}
+use Rattle.machine_model.specs.Run.{IsGood, IsHeapRegion, IsUserRegion}
+use Rattle.machine_model.specs.Machine.{is_of_user}
+use Rattle.machine_model.proofs.Booleans.{or_left, or_right, or_cases, neither_or}
+use Rattle.machine_model.proofs.Regions.{within, within_bounds, beside}
 use Rattle.mapped_regions.specs.Regions.{AreLaid, is_at, kind_at, without_region}
 use Rattle.mapped_regions.proofs.AllRegions.{joined_all}
 use Rattle.mapped_regions.specs.Mapped.{IsPageRange, IsRegion}

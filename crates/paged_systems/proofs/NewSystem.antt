@@ -1,6 +1,6 @@
 -- A new system, and the start of a run.
 use Rattle.std.proofs.Common.{ℕ, ◌^◌, sym, arith, subst}
-use Rattle.heap_model.specs.Machine.{Paged}
+use Rattle.machine_model.specs.Machine.{Paged}
 use Rattle.mapped_regions.specs.Mapped.{IsMapped, IsEmpty}
 use Rattle.paged_systems.specs.Window.{IsHeapWindow}
 use Rattle.mapped_regions.specs.Regions.{AreLaid}

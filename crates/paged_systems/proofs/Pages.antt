@@ -1,6 +1,6 @@
 -- Pages that hold some bytes.
 use Rattle.std.proofs.Common.{ℕ, ◌*◌, ◌<◌, ◌≤◌, arith}
-use Rattle.heap_model.specs.Request.{pages_in}
+use Rattle.machine_model.specs.Request.{pages_in}
 
 pub pages_hold : (n : ℕ) → n ≤ 4096 * pages_in n
 unfolding pages_in

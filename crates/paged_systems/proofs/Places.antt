@@ -1,8 +1,8 @@
 -- Places in the window.
 use Rattle.std.proofs.Common.{◌≡◌, ℕ, ◌+◌, ◌*◌, ◌/◌, ◌%◌, ◌^◌, ◌<◌, ◌≤◌, ◌-◌, ◌||◌, ap, ◌∙◌, arith, nat_eq}
 use Rattle.paging_core.specs.Address.{IsCanonicalRange}
-use Rattle.heap_model.specs.Machine.{Paged}
-use Rattle.heap_model.specs.Place.{IsFit}
+use Rattle.machine_model.specs.Machine.{Paged}
+use Rattle.machine_model.specs.Place.{IsFit}
 use Rattle.paged_systems.specs.Window.{IsHeapWindow}
 
 -- pages that lie in the window are canonical

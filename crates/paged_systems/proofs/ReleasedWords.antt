@@ -13,7 +13,7 @@ use Rattle.paging_core.specs.Walk.{Place, walk_of}
 use Rattle.paging_core.specs.Tree.{IsTree}
 use Rattle.page_ranges.specs.RangeUnmapping.{AreUnmapped}
 use Rattle.page_ranges.proofs.Unmapped.{unmapped_words}
-use Rattle.heap_model.specs.Machine.{Paged}
+use Rattle.machine_model.specs.Machine.{Paged}
 use Rattle.mapped_regions.specs.Regions.{AreLaid, AreHeld, IsRegionBoundary}
 use Rattle.mapped_regions.proofs.Laying.{laid_cut}
 use Rattle.mapped_regions.specs.Mapped.{IsPageRange, IsMapped, AreGone, walked_word, word_reached}

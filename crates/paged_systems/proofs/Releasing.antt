@@ -7,9 +7,9 @@ use Rattle.std.proofs.lemmas.Bool.Decides.{nat_tests}
 use Rattle.heap_memory.specs.declared.grant.Grant.{Grant}
 use Rattle.heap_memory.specs.Regions.{IsApart}
 use Rattle.heap_memory.specs.Runs.{IsWithin, begins_in, up_to, without_run}
-use Rattle.heap_model.specs.declared.region.Region.{Region}
-use Rattle.heap_model.specs.State.{end_of_region}
-use Rattle.heap_model.specs.Place.{meets}
+use Rattle.machine_model.specs.declared.region.Region.{Region}
+use Rattle.machine_model.specs.State.{end_of_region}
+use Rattle.machine_model.specs.Place.{meets}
 use Rattle.mapped_regions.specs.Regions.{AreLaid, cut_regions}
 use Rattle.paged_systems.specs.Words.{heap_regions, grant_of}
 

@@ -5,9 +5,9 @@ use Rattle.std.proofs.lemmas.Bool.{cases_lt}
 use Rattle.std.proofs.lemmas.Bool.Decides.{nat_tests}
 use Rattle.heap_memory.specs.Regions.{is_granted, IsApart}
 use Rattle.heap_memory.specs.Runs.{IsRun, IsWithin, without_run}
-use Rattle.heap_model.specs.declared.region.Region.{Region}
-use Rattle.heap_model.specs.State.{end_of_region, is_within}
-use Rattle.heap_model.proofs.Booleans.{or_cases}
+use Rattle.machine_model.specs.declared.region.Region.{Region}
+use Rattle.machine_model.specs.State.{end_of_region, is_within}
+use Rattle.machine_model.proofs.Booleans.{or_cases}
 use Rattle.mapped_regions.specs.Regions.{AreLaid, AreHeld, IsRegionBoundary, cut_regions}
 use Rattle.mapped_regions.specs.Mapped.{IsRegion}
 use Rattle.mapped_regions.proofs.CutPages.{at_or_behind}

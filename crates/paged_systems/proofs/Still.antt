@@ -9,8 +9,8 @@ use Rattle.paging_core.specs.Walk.{Place, reach, large_of, walk_of, reached}
 use Rattle.paging_core.specs.Tree.{IsTree}
 use Rattle.heap_memory.specs.Regions.{IsWordOf, is_granted}
 use Rattle.heap_memory.specs.Words.{IsStored}
-use Rattle.heap_model.specs.State.{is_within}
-use Rattle.heap_model.specs.Machine.{Paged, OnlyHeapBytesChange, is_of_user}
+use Rattle.machine_model.specs.State.{is_within}
+use Rattle.machine_model.specs.Machine.{Paged, OnlyHeapBytesChange, is_of_user}
 use Rattle.paged_systems.specs.Layout.{IsPagedKept}
 use Rattle.paged_systems.specs.Words.{heap_regions, grants_of}
 use Rattle.mapped_regions.specs.Mapped.{IsMappedWord, walked_word, word_reached}

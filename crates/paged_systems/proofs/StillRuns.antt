@@ -8,7 +8,7 @@ use Rattle.paging_core.specs.Walk.{Place, reach, large_of, walk_of, reached}
 use Rattle.paging_core.specs.Tree.{IsTree}
 use Rattle.heap_memory.specs.Regions.{is_granted, IsWordOf}
 use Rattle.heap_memory.specs.Words.{IsBeside, AreWordsOf}
-use Rattle.heap_model.specs.Machine.{Paged, OnlyHeapBytesChange, is_of_user}
+use Rattle.machine_model.specs.Machine.{Paged, OnlyHeapBytesChange, is_of_user}
 use Rattle.paged_systems.specs.Layout.{IsPagedKept}
 use Rattle.paged_systems.specs.Words.{grants_of}
 use Rattle.paged_systems.specs.Written.{AreInPage, ArePut}

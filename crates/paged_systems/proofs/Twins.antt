@@ -10,10 +10,10 @@ use Rattle.heap_memory.specs.Words.{IsStored, AreWordsOf, AreFilled, AreCopied, 
 use Rattle.heap_memory.specs.Events.{Released}
 use Rattle.heap_memory.specs.Runs.{without_run, is_in_units}
 use Rattle.heap_memory.specs.RunLaws.{granted_before}
-use Rattle.heap_model.specs.declared.region.Region.{Region}
-use Rattle.heap_model.specs.Place.{IsPlace}
-use Rattle.heap_model.specs.Request.{pages_in}
-use Rattle.heap_model.specs.Machine.{Paged, OnlyHeapBytesChange}
+use Rattle.machine_model.specs.declared.region.Region.{Region}
+use Rattle.machine_model.specs.Place.{IsPlace}
+use Rattle.machine_model.specs.Request.{pages_in}
+use Rattle.machine_model.specs.Machine.{Paged, OnlyHeapBytesChange}
 use Rattle.mapped_regions.specs.Mapped.{word_reached}
 use Rattle.paged_systems.specs.declared.flat_window.FlatWindow.{FlatWindow}
 use Rattle.paged_systems.specs.FlatWindow.{IsCovered, AreCovered, flat_word, IsLonger, ArePutAt}

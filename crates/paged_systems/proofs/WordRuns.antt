@@ -4,7 +4,7 @@ use native.Mathlib.Decide.{dec_lt}
 use Rattle.heap_memory.specs.declared.grant.Grant.{Grant}
 use Rattle.heap_memory.specs.Regions.{IsWordOf}
 use Rattle.heap_memory.specs.Words.{AreWordsOf, AreFilled, AreCopied}
-use Rattle.heap_model.specs.Machine.{Paged, OnlyHeapBytesChange}
+use Rattle.machine_model.specs.Machine.{Paged, OnlyHeapBytesChange}
 use Rattle.paged_systems.specs.Words.{grants_of}
 use Rattle.paged_systems.specs.Written.{ArePut, AreLoaded}
 

@@ -5,7 +5,7 @@ use Rattle.page_ranges.proofs.Unmapped.{unmapped_words}
 use Rattle.paging_core.specs.PageChanges.{among}
 use Rattle.paging_core.specs.declared.page_table.Rights.{Rights}
 use Rattle.heap_memory.specs.Regions.{is_granted, IsWordOf}
-use Rattle.heap_model.specs.Machine.{Paged, HasGotPages}
+use Rattle.machine_model.specs.Machine.{Paged, HasGotPages}
 use Rattle.mapped_regions.specs.Mapped.{IsRegionJoined, IsLeft, word_reached}
 use Rattle.mapped_regions.specs.UserRegions.{user_region, CanUnmap}
 use Rattle.paged_systems.specs.Layout.{IsPagedKept}

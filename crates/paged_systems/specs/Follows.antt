@@ -3,7 +3,7 @@ use Rattle.std.specs.Prelude.{◌≡◌, List, [], ◌∷◌, ◌++◌, refl}
 use Rattle.std.proofs.Common.{ap, ◌∙◌, subst, sym, arith}
 use Rattle.heap_memory.specs.Events.{Event, Granted, Refused, Released}
 use Rattle.paging_core.specs.Walk.{reach, large_of, reached}
-use Rattle.heap_model.specs.Machine.{Paged, OnlyHeapBytesChange}
+use Rattle.machine_model.specs.Machine.{Paged, OnlyHeapBytesChange}
 use Rattle.paged_systems.specs.Layout.{IsGrantedFor, MayDeny}
 use Rattle.paged_systems.specs.Released.{IsReleasedFor}
 

@@ -5,7 +5,7 @@ use Rattle.heap_memory.specs.declared.grant.Grant.{Grant}
 use Rattle.heap_memory.specs.declared.grant.GrantFault.{GrantFault}
 use Rattle.heap_memory.specs.Events.{Granted, Refused}
 use Rattle.heap_memory.specs.Regions.{IsApart, IsGoodGrant, with_grant}
-use Rattle.heap_model.specs.Machine.{Paged}
+use Rattle.machine_model.specs.Machine.{Paged}
 use Rattle.mapped_regions.specs.Mapped.{word_reached}
 use Rattle.paged_systems.specs.Follows.{Follows}
 use Rattle.paged_systems.specs.Layout.{MayDeny}

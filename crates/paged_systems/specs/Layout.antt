@@ -7,12 +7,12 @@ use Rattle.paging_core.specs.Missing.{missing_of}
 use Rattle.heap_memory.specs.declared.grant.Grant.{Grant}
 use Rattle.heap_memory.specs.declared.grant.GrantFault.{GrantFault}
 use Rattle.heap_memory.specs.declared.grant.GrantFault.TheVariants.{NoSpace, NoFrames, OutOfMemory}
-use Rattle.heap_model.specs.declared.region.Region.{Region}
-use Rattle.heap_model.specs.Request.{pages_in}
-use Rattle.heap_model.specs.State.{end_of_region}
-use Rattle.heap_model.specs.Place.{with_region, IsPlace, HasNoPlace}
-use Rattle.heap_model.specs.Room.{heap_region}
-use Rattle.heap_model.specs.Machine.{Paged, IsPagedGrant}
+use Rattle.machine_model.specs.declared.region.Region.{Region}
+use Rattle.machine_model.specs.Request.{pages_in}
+use Rattle.machine_model.specs.State.{end_of_region}
+use Rattle.machine_model.specs.Place.{with_region, IsPlace, HasNoPlace}
+use Rattle.machine_model.specs.Room.{heap_region}
+use Rattle.machine_model.specs.Machine.{Paged, IsPagedGrant}
 use Rattle.mapped_regions.specs.Regions.{AreLaid}
 use Rattle.mapped_regions.specs.Mapped.{IsMapped, IsMapped-prop, AreRunsUsed}
 use Rattle.std.proofs.Props.{props}

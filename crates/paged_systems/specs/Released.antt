@@ -1,7 +1,7 @@
 -- What a paged system gives back.
 use Rattle.std.specs.Prelude.{◌≡◌, ℕ, ◌+◌, ◌-◌, ◌/◌, ◌%◌, ◌<◌, ◌≤◌}
 use Rattle.heap_memory.specs.Runs.{IsRun}
-use Rattle.heap_model.specs.Machine.{Paged}
+use Rattle.machine_model.specs.Machine.{Paged}
 use Rattle.mapped_regions.specs.Mapped.{IsMapped, AreGone}
 use Rattle.paged_systems.specs.Words.{grants_of}
 

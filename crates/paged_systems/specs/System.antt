@@ -1,7 +1,7 @@
 -- What contracts see of a paged system.
 use Rattle.std.specs.Prelude.{ℕ, ◌+◌}
 use Rattle.paging_core.specs.Pool.{free_count}
-use Rattle.heap_model.specs.Machine.{Paged}
+use Rattle.machine_model.specs.Machine.{Paged}
 use Rattle.mapped_regions.specs.Shown.{paged_view}
 use Rattle.paged_systems.specs.declared.paged_system.PagedSystem.{PagedSystem}
 

@@ -2,7 +2,7 @@
 use Rattle.std.specs.Prelude.{◌≡◌, ℕ}
 use Rattle.std.proofs.Props.{props}
 use Rattle.heap_memory.specs.Regions.{IsWordOf}
-use Rattle.heap_model.specs.Machine.{Paged}
+use Rattle.machine_model.specs.Machine.{Paged}
 use Rattle.mapped_regions.specs.Mapped.{word_reached}
 use Rattle.paged_systems.specs.declared.flat_window.FlatWindow.{FlatWindow}
 use Rattle.paged_systems.specs.FlatWindow.{IsCovered, flat_word}

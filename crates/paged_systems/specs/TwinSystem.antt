@@ -3,7 +3,7 @@ use Rattle.std.specs.Prelude.{◌≡◌, ℕ, ◌+◌, ◌%◌, ◌<◌, ◌≤�
 use Rattle.heap_memory.specs.declared.grant.Grant.{Grant}
 use Rattle.heap_memory.specs.Regions.{IsWordOf}
 use Rattle.heap_memory.specs.Words.{IsStored, AreWordsOf, AreFilled, AreCopied}
-use Rattle.heap_model.specs.Machine.{Paged}
+use Rattle.machine_model.specs.Machine.{Paged}
 use Rattle.mapped_regions.specs.Mapped.{word_reached}
 use Rattle.paged_systems.specs.FlatWindow.{flat_word}
 use Rattle.paged_systems.specs.Follows.{Follows}

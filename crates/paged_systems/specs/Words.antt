@@ -1,8 +1,8 @@
 -- The regions of a paged system, as a heap over it sees them: the heap's alone.
 use Rattle.std.specs.Prelude.{◌*◌, List, map, filter}
 use Rattle.heap_memory.specs.declared.grant.Grant.{Grant}
-use Rattle.heap_model.specs.declared.region.Region.{Region}
-use Rattle.heap_model.specs.Machine.{Paged}
+use Rattle.machine_model.specs.declared.region.Region.{Region}
+use Rattle.machine_model.specs.Machine.{Paged}
 
 -- the regions of the heap among these
 abbrev pub heap_regions : List Region → List Region

@@ -4,7 +4,7 @@ use Rattle.paging_core.specs.Walk.{reached}
 use Rattle.heap_memory.specs.declared.grant.Grant.{Grant}
 use Rattle.heap_memory.specs.Regions.{is_granted, IsWordOf}
 use Rattle.heap_memory.specs.Words.{AreWordsOf, IsBeside}
-use Rattle.heap_model.specs.Machine.{Paged, OnlyHeapBytesChange}
+use Rattle.machine_model.specs.Machine.{Paged, OnlyHeapBytesChange}
 use Rattle.paged_systems.specs.Words.{grants_of}
 use Rattle.mapped_regions.specs.Mapped.{word_reached}
 

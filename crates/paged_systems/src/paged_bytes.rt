@@ -7,7 +7,7 @@ ghost use Rattle.paged_systems.specs.Written.{AreHeapBytes, AreRead, AreBytesWri
 
 use crate::paged_system::PagedSystem;
 use heap_memory::Memory;
-use heap_model::Bytes;
+use machine_model::Bytes;
 use std::alloc::{AllocError, Global};
 
 /// How many bytes of a run stand before its first whole word.

@@ -4,15 +4,15 @@ ghost use Rattle.paging_core.specs.Address.{is_canonical};
 ghost use Rattle.paging_core.specs.Pool.{free_count};
 ghost use Rattle.paging_core.specs.Walk.{walk_of, reached};
 ghost use Rattle.mapped_regions.specs.Regions.{kind_at};
-ghost use Rattle.heap_model.specs.Machine.{rights_of};
-ghost use Rattle.heap_model.specs.Room.{heap_region as granted_region, heap_rights as granted_rights};
+ghost use Rattle.machine_model.specs.Machine.{rights_of};
+ghost use Rattle.machine_model.specs.Room.{heap_region as granted_region, heap_rights as granted_rights};
 ghost use Rattle.paged_systems.specs.Window.{IsHeapWindow};
-ghost use Rattle.heap_model.specs.Request.{pages_in};
+ghost use Rattle.machine_model.specs.Request.{pages_in};
 ghost use Rattle.paged_systems.specs.Layout.{IsPagedKept, IsPagedKept-prop};
 ghost use Rattle.mapped_regions.specs.Shown.{paged_view};
 
 use heap_memory::{Grant, GrantFault};
-use heap_model::{Region, RegionList, Rights};
+use machine_model::{Region, RegionList, Rights};
 use mapped_regions::MappedRegions;
 use paging_core::{Frames, PageSize, PhysFrame, Size4KiB};
 use std::alloc::{AllocError, Global};
@@ -29,7 +29,7 @@ fn heap_rights() -> Rights
 }
 
 /// How many pages hold this number of bytes.
-#[tactic(auto, unfolding(heap_model::specs::Request::pages_in))]
+#[tactic(auto, unfolding(machine_model::specs::Request::pages_in))]
 pub(crate) fn pages_in(size: u64) -> u64
     ensures { result ≡ pages_in size }
 {
@@ -64,7 +64,7 @@ impl PagedSystem {
     ghost use Rattle.heap_memory.specs.Runs.{IsRun, without_run};
     ghost use Rattle.paged_systems.specs.Released.{IsReleasedFor};
     ghost use Rattle.heap_memory.specs.Words.{IsStored};
-    ghost use Rattle.heap_model.specs.Machine.{OnlyHeapBytesChange};
+    ghost use Rattle.machine_model.specs.Machine.{OnlyHeapBytesChange};
     ghost use Rattle.paged_systems.specs.Written.{AreInPage, AreLoaded, ArePut};
 
     /// A system with a window of `pages` pages from the address `base` on, and with `frames` frames, of which one

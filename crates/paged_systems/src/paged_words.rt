@@ -1,7 +1,7 @@
 // Words of the regions of a paged system, in a row: those of a page by one walk for many.
 ghost use Rattle.std.specs.Prelude.{◌+◌, ◌*◌, ◌≤◌, ◌⊎◌};
 ghost use Rattle.heap_memory.specs.Words.{AreWordsOf, AreFilled, AreCopied};
-ghost use Rattle.heap_model.specs.Machine.{OnlyHeapBytesChange};
+ghost use Rattle.machine_model.specs.Machine.{OnlyHeapBytesChange};
 ghost use Rattle.mapped_regions.specs.Mapped.{word_reached};
 ghost use Rattle.paged_systems.specs.System.{paged};
 ghost use Rattle.paged_systems.specs.Words.{grants_of};

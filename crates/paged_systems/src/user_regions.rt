@@ -1,13 +1,13 @@
 // Regions of the user beside the heap: pages that are mapped and unmapped at an address that the caller names.
 ghost use Rattle.std.specs.Prelude.{◌≡◌, [], IfErr, OnOk, OnErr};
-ghost use Rattle.heap_model.specs.Slots.{listed_slots};
+ghost use Rattle.machine_model.specs.Slots.{listed_slots};
 ghost use Rattle.mapped_regions.specs.Mapped.{CanMap, IsRegionJoined, IsLeft};
 ghost use Rattle.mapped_regions.specs.UserRegions.{user_region, IsMapRefused, IsUnmapRefused, CanUnmap};
 ghost use Rattle.paged_systems.specs.System.{paged};
 ghost use Rattle.paged_systems.specs.Beside.{KeepsHeapWords};
 
 use crate::paged_system::PagedSystem;
-use heap_model::{Rights, SlotList};
+use machine_model::{Rights, SlotList};
 use mapped_regions::{MapFault, UnmapFault};
 
 impl PagedSystem {

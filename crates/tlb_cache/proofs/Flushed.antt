@@ -3,7 +3,7 @@ use Rattle.std.proofs.Common.{◌≡◌, ℕ, zero, suc, ◌+◌, ◌-◌, ◌*�
 use Rattle.std.proofs.lemmas.Bool.{eq-eqb, eqb-true, cases_eq, le-leb, lt-ltb, le-ltb, and_from}
 use Rattle.std.proofs.lemmas.Bool.Decides.{nat_tests}
 use Rattle.std.specs.List.{list_any, range_with_len, flat_map}
-use Rattle.heap_model.proofs.Booleans.{or_left, or_right, or_cases}
+use Rattle.machine_model.proofs.Booleans.{or_left, or_right, or_cases}
 use Rattle.paging_core.specs.Address.{is_canonical, IsCanonicalRange}
 use Rattle.paging_core.specs.Steps.{position, page_at, half_pages}
 use Rattle.x86_instructions.specs.declared.tlb.FlushCommand.{FlushCommand}

@@ -2,13 +2,13 @@
 use Rattle.std.proofs.Common.{◌≡◌, ℕ, ◌+◌, ◌-◌, ◌*◌, ◌/◌, ◌%◌, ◌^◌, ◌<◌, ◌≤◌, ◌⊎◌, inl, inr, true, false, not, ◌&&◌, ◌==◌, IsTrue, List, [], ◌∷◌, subst, sym, arith}
 use Rattle.std.proofs.lemmas.Bool.{eqb-true, and_parts}
 use Rattle.std.specs.List.{list_any}
-use Rattle.heap_model.proofs.Booleans.{or_cases}
+use Rattle.machine_model.proofs.Booleans.{or_cases}
 use Rattle.paging_core.specs.Address.{is_canonical}
 use Rattle.paging_core.specs.Memory.{frame_count}
-use Rattle.heap_model.specs.declared.region.Region.{Region}
-use Rattle.heap_model.specs.Place.{is_at}
-use Rattle.heap_model.specs.State.{total_pages}
-use Rattle.heap_model.specs.Machine.{Paged}
+use Rattle.machine_model.specs.declared.region.Region.{Region}
+use Rattle.machine_model.specs.Place.{is_at}
+use Rattle.machine_model.specs.State.{total_pages}
+use Rattle.machine_model.specs.Machine.{Paged}
 use Rattle.mapped_regions.specs.Mapped.{IsPageRange, IsMapped}
 use Rattle.mapped_regions.specs.UserRegions.{CanUnmap}
 

@@ -6,9 +6,9 @@ use Rattle.paging_core.specs.Walk.{Place, walk_of}
 use Rattle.x86_flags.specs.PageFaultErrorCode.{page_fault_bits}
 use Rattle.x86_flags.specs.declared.page_fault_error_code.PageFaultErrorCode.{PageFaultErrorCode}
 use Rattle.paging_core.specs.declared.processor_access.AccessKind.{AccessKind}
-use Rattle.heap_model.specs.Machine.{Paged, rights_of}
+use Rattle.machine_model.specs.Machine.{Paged, rights_of}
 use Rattle.paging_core.specs.ProcessorAccess.{fault_code}
-use Rattle.heap_model.specs.Probe.{is_access_granted}
+use Rattle.machine_model.specs.Probe.{is_access_granted}
 use Rattle.tlb_cache.specs.Cached.{IsProbed}
 use Rattle.tlb_cache.specs.declared.probed.Probed.TheVariants.{Byte, Fault}
 

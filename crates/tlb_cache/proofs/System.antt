@@ -3,8 +3,8 @@ use Rattle.std.proofs.Common.{◌≡◌, ℕ, ◌+◌, ◌/◌, ◌%◌, ◌^◌
 use Rattle.std.specs.List.{list_any}
 use Rattle.std.proofs.lemmas.Bool.{true≢false}
 use Rattle.paging_core.specs.Walk.{walk_of, mapped_place}
-use Rattle.heap_model.specs.declared.region.Region.{Region}
-use Rattle.heap_model.specs.Machine.{Paged}
+use Rattle.machine_model.specs.declared.region.Region.{Region}
+use Rattle.machine_model.specs.Machine.{Paged}
 use Rattle.mapped_regions.specs.Mapped.{IsRegionJoined, IsLeft}
 use Rattle.x86_instructions.specs.declared.tlb.FlushCommand.{FlushCommand}
 use Rattle.tlb_cache.specs.Cache.{AgreesWithTables, IsEntryFound, left_by_all}

@@ -11,9 +11,9 @@ use Rattle.x86_instructions.specs.declared.tlb.FlushCommand.{FlushCommand}
 use Rattle.x86_instructions.specs.Invlpgb.{commands, limits_of, whole}
 use Rattle.x86_flags.specs.PageFaultErrorCode.{page_fault_bits}
 use Rattle.paging_core.specs.declared.processor_access.AccessKind.{AccessKind}
-use Rattle.heap_model.specs.Machine.{Paged, rights_of}
+use Rattle.machine_model.specs.Machine.{Paged, rights_of}
 use Rattle.paging_core.specs.ProcessorAccess.{fault_code}
-use Rattle.heap_model.specs.Probe.{is_access_granted}
+use Rattle.machine_model.specs.Probe.{is_access_granted}
 use Rattle.mapped_regions.specs.Mapped.{IsPageRange}
 use Rattle.mapped_regions.specs.UserRegions.{IsUnmapRefused}
 use Rattle.tlb_cache.specs.Covered.{covers}

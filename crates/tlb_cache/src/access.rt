@@ -3,7 +3,7 @@ ghost use Rattle.std.specs.Prelude.{◌≡◌, ◌*◌, ◌/◌, ◌%◌, ◌<�
 ghost use Rattle.paging_core.specs.Address.{is_canonical};
 ghost use Rattle.paging_core.specs.Memory.{frame_count, word_at, byte_of};
 ghost use Rattle.paging_core.specs.Walk.{walk_of, mapped_place};
-ghost use Rattle.heap_model.specs.Machine.{rights_of};
+ghost use Rattle.machine_model.specs.Machine.{rights_of};
 ghost use Rattle.paged_systems.specs.System.{paged};
 ghost use Rattle.tlb_cache.specs.Cache.{AgreesWithTables, IsLookedUp};
 ghost use Rattle.tlb_cache.specs.Cached.{IsProbed};

@@ -1,5 +1,5 @@
 use Rattle.std.proofs.Common.{◌≡◌, ◌≤◌}
-use Rattle.heap_model.specs.State.{State}
+use Rattle.machine_model.specs.State.{State}
 use Rattle.heap_program.specs.Progress.{IsAt}
 use Rattle.heap_picture.specs.Large.{larges_from}
 use Rattle.heap_picture.proofs.large.larges_from.Given as goal

@@ -1,5 +1,5 @@
 use Rattle.std.proofs.Common.{◌≡◌, ◌≤◌, ◌+◌, ◌++◌, drop}
-use Rattle.heap_model.specs.State.{total_pages}
+use Rattle.machine_model.specs.State.{total_pages}
 use Rattle.heap_picture.specs.Lines.{region_lines_from, region_lines}
 use Rattle.heap_picture.proofs.lines.region_lines.Given as goal
 

@@ -1,5 +1,5 @@
 use Rattle.std.proofs.Common.{◌≡◌, ◌≤◌, ◌+◌, ◌*◌, ◌^◌, drop}
-use Rattle.heap_model.specs.State.{total_pages}
+use Rattle.machine_model.specs.State.{total_pages}
 use Rattle.heap_picture.proofs.lines.total_pages.Given as goal
 
 abbrev pub invariant-loop-region : goal.invariant-loop-region

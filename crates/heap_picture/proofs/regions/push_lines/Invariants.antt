@@ -1,5 +1,5 @@
 use Rattle.std.proofs.Common.{◌≡◌, ◌+◌, ◌*◌, ◌++◌, drop, string_bytes}
-use Rattle.heap_model.specs.State.{State}
+use Rattle.machine_model.specs.State.{State}
 use Rattle.heap_program.specs.Progress.{IsAt}
 use Rattle.heap_picture.specs.Regions.{region_lines_text}
 use Rattle.heap_picture.proofs.regions.push_lines.Given as goal

@@ -1,5 +1,5 @@
 use Rattle.std.proofs.Common.{arith, ℕ, ◌≡◌, ◌≤◌, ◌⊎◌, Some, IfSome, inl, inr, refl, sym, subst}
-use Rattle.heap_model.specs.declared.config.Config.{Config}
+use Rattle.machine_model.specs.declared.config.Config.{Config}
 use Rattle.heap_program.specs.declared.arguments.Command.TheVariants.{Run, Generate}
 use Rattle.heap_program.specs.Command.{command_of}
 use Rattle.heap_program.specs.Done.{IsStatusOf}

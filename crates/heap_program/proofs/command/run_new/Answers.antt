@@ -1,6 +1,6 @@
 use Rattle.std.proofs.Common.{rules, arith, ℕ, List, [], ◌<◌, ◌+◌, ◌^◌, length, inl, inr, refl, ◌∙◌}
 use Rattle.std.specs.Prelude.{unwrap_or}
-use Rattle.heap_model.specs.State.{start}
+use Rattle.machine_model.specs.State.{start}
 use Rattle.heap_program.proofs.Commands.{made_status, ok_status, stop_status, complete_status}
 use Rattle.heap_program.proofs.LiveBlocks.{holds_blocks}
 use Rattle.heap_program.proofs.command.run_new.Goals as goal

@@ -1,5 +1,5 @@
 use Rattle.std.proofs.Common.{rules, inl, inr, refl}
-use Rattle.heap_model.specs.State.{start}
+use Rattle.machine_model.specs.State.{start}
 use Rattle.heap_program.proofs.Commands.{made_status}
 use Rattle.heap_program.proofs.generate.generate_new.Goals as goal
 

@@ -1,5 +1,5 @@
 use Rattle.std.proofs.Common.{List, Option, length, ap, subst, arith}
-use Rattle.heap_model.specs.State.{Block}
+use Rattle.machine_model.specs.State.{Block}
 use Rattle.kernel_heap.specs.declared.machine.Machine.{Machine}
 use Rattle.heap_program.specs.Headline.{IsInterrupted, IsKeptUp, IsStopped}
 use Rattle.heap_program.specs.Stepped.{IsAnsweredBy}

@@ -1,7 +1,7 @@
 use Rattle.std.proofs.Common.{ℕ, length, sym, ◌∙◌, arith, le_refl}
 use Rattle.std.specs.Prelude.{◌==◌}
 use Rattle.heap_program.proofs.Found.{found_at, one_line_before}
-use Rattle.heap_lines.proofs.WordLemmas.{none_far, some_near}
+use Rattle.call_lines.proofs.WordLemmas.{none_far, some_near}
 use Rattle.heap_program.proofs.session.line_length.Goals as goal
 
 pub returns-in-Some : goal.returns-in-Some

@@ -1,5 +1,5 @@
 use Rattle.std.proofs.Common.{◌≡◌, ◌++◌, take, string_bytes}
-use Rattle.heap_lines.specs.Written.{hexadecimal}
+use Rattle.call_lines.specs.Written.{hexadecimal}
 use Rattle.heap_program.specs.Text.{spaced}
 use Rattle.heap_program.proofs.text.push_slots.Given as goal
 

@@ -1,6 +1,6 @@
 use Rattle.std.proofs.Common.{◌≡◌, ◌∙◌, [], ap, subst}
 use Rattle.dlmalloc.specs.declared.heap.Dlmalloc.{Dlmalloc}
-use Rattle.heap_model.specs.Slots.{listed_slots}
+use Rattle.machine_model.specs.Slots.{listed_slots}
 use Rattle.paged_systems.specs.Beside.{KeepsHeapWords}
 use Rattle.kernel_heap.specs.Moves.{IsKeptBeside}
 use Rattle.paged_systems.specs.System.{paged}

@@ -2,8 +2,8 @@ use Rattle.std.specs.Prelude.{Result, Ok, Err, IfErr}
 use Rattle.std.specs.Result.{IsErrAnd}
 use Rattle.std.proofs.Common.{◌≡◌, ◌∷◌, [], ◌++◌, take, get_or, sym, subst, List}
 use Rattle.std.proofs.lemmas.List.{take_more, take_all}
-use Rattle.heap_model.specs.declared.call.Call.{Call}
-use Rattle.heap_model.specs.declared.answer.Answer.{Answer}
+use Rattle.machine_model.specs.declared.call.Call.{Call}
+use Rattle.machine_model.specs.declared.answer.Answer.{Answer}
 use Rattle.kernel_heap.specs.Config.{IsConfigRefused}
 use Rattle.kernel_heap.specs.Runs.{AreServed}
 use Rattle.kernel_heap.specs.Steps.{HasStepped}

@@ -2,9 +2,9 @@ use Rattle.std.proofs.Common.{false, subst, sym, refl, rules, arith}
 use Rattle.dlmalloc.specs.declared.heap.Dlmalloc.{Dlmalloc}
 use Rattle.heap_arena.specs.declared.arena.Arena.{Arena}
 use Rattle.heap_arena.specs.Arena.{regions_of}
-use Rattle.heap_library.specs.Calls.{IsBlockGiven}
-use Rattle.heap_library.specs.Checked.{KeepsWordsOutside}
-use Rattle.heap_library.specs.Room.{IsRefused}
+use Rattle.checked_heap.specs.Calls.{IsBlockGiven}
+use Rattle.checked_heap.specs.Checked.{KeepsWordsOutside}
+use Rattle.checked_heap.specs.Room.{IsRefused}
 use Rattle.limzhur_c.proofs.exports.limzhur_malloc.Goals as goal
 
 pub returns-in-Ok-clause-answered : goal.returns-in-Ok-clause-answered

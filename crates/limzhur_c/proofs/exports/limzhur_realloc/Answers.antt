@@ -1,8 +1,8 @@
 use Rattle.std.proofs.Common.{◌≡◌, subst, sym, refl, rules, arith}
 use Rattle.dlmalloc.specs.declared.heap.Dlmalloc.{Dlmalloc}
 use Rattle.heap_arena.specs.declared.arena.Arena.{Arena}
-use Rattle.heap_library.specs.Calls.{IsBlockResized}
-use Rattle.heap_library.specs.Room.{IsRefusedResize}
+use Rattle.checked_heap.specs.Calls.{IsBlockResized}
+use Rattle.checked_heap.specs.Room.{IsRefusedResize}
 use Rattle.limzhur_c.proofs.exports.limzhur_realloc.Goals as goal
 
 pub returns-in-Ok-clause-answered : goal.returns-in-Ok-clause-answered

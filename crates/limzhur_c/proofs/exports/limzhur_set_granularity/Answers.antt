@@ -2,8 +2,8 @@ use Rattle.std.proofs.Common.{subst}
 use Rattle.std.specs.Prelude.{if◌then◌else◌}
 use Rattle.dlmalloc.specs.declared.heap.Dlmalloc.{Dlmalloc}
 use Rattle.heap_arena.specs.declared.arena.Arena.{Arena}
-use Rattle.heap_library.specs.Answers.{IsOnlySet}
-use Rattle.heap_library.specs.Checked.{arena_heap_state}
+use Rattle.checked_heap.specs.Answers.{IsOnlySet}
+use Rattle.checked_heap.specs.Checked.{arena_heap_state}
 use Rattle.limzhur_c.proofs.exports.limzhur_set_granularity.Goals as goal
 
 pub returns-clause-set : goal.returns-clause-set

@@ -3,7 +3,7 @@ use Rattle.dlmalloc.specs.Blocks.{ArePlaced}
 use Rattle.dlmalloc.specs.declared.heap.Dlmalloc.{Dlmalloc}
 use Rattle.heap_arena.specs.Arena.{regions_of}
 use Rattle.heap_arena.specs.declared.arena.Arena.{Arena}
-use Rattle.heap_library.specs.Checked.{arena_heap_state}
+use Rattle.checked_heap.specs.Checked.{arena_heap_state}
 use Rattle.limzhur_c.proofs.exports.limzhur_stats.Goals as goal
 
 pub returns-clause-placed : goal.returns-clause-placed

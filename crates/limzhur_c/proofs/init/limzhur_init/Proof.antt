@@ -28,10 +28,10 @@ use denote.Triple.Spec.{triple_of}
 use denote.Triple.Table.{framed}
 use denote.Triple.Walked.{Stays, walk_of, stay_dropped, Goes-dropped, ends_at}
 use Rattle.dlmalloc.specs.Heap.{IsGranularity}
-use Rattle.heap_library.specs.declared.checked.CheckedHeap.{CheckedHeap}
-use Rattle.heap_library.specs.contracts.checked.CheckedHeap as R-type
-use Rattle.heap_library.specs.Checked.{IsCleared}
-use Rattle.heap_library.specs.Begun.{FitsAt, IsBegun}
+use Rattle.checked_heap.specs.declared.checked.CheckedHeap.{CheckedHeap}
+use Rattle.checked_heap.specs.contracts.checked.CheckedHeap as R-type
+use Rattle.checked_heap.specs.Checked.{IsCleared}
+use Rattle.checked_heap.specs.Begun.{FitsAt, IsBegun}
 use Rattle.limzhur_c.specs.contracts.init.limzhur_init_with as g
 use Rattle.limzhur_c.proofs.init.limzhur_init_with.Met.{met as with_met}
 use Rattle.limzhur_c.specs.contracts.init.limzhur_init as f

@@ -30,14 +30,14 @@ use denote.Triple.Clauses.{lasts}
 use denote.Triple.Spec.{triple_of}
 use denote.Triple.Table.{framed}
 use denote.Triple.Walked.{Stays, walk_of, stay_dropped, Goes-dropped, ends_at}
-use Rattle.heap_library.specs.declared.checked.CheckedHeap.{CheckedHeap}
-use Rattle.heap_library.specs.contracts.checked.CheckedHeap as R-type
-use Rattle.heap_library.specs.Checked.{IsCleared}
+use Rattle.checked_heap.specs.declared.checked.CheckedHeap.{CheckedHeap}
+use Rattle.checked_heap.specs.contracts.checked.CheckedHeap as R-type
+use Rattle.checked_heap.specs.Checked.{IsCleared}
 use Rattle.dlmalloc.specs.Heap.{IsGranularity}
-use Rattle.heap_library.specs.Begun.{FitsAt, IsBegun}
+use Rattle.checked_heap.specs.Begun.{FitsAt, IsBegun}
 use Rattle.limzhur_c.specs.contracts.init.begin as h
 use Rattle.limzhur_c.proofs.init.begin.Met.{met as begin_met}
-use Rattle.heap_library.proofs.checked.CheckedHeap.TheLaws.{the_row_laws}
+use Rattle.checked_heap.proofs.checked.CheckedHeap.TheLaws.{the_row_laws}
 use Rattle.limzhur_c.specs.contracts.init.words_at as g
 use Rattle.limzhur_c.proofs.init.words_at.Met.{met as words_met}
 use Rattle.limzhur_c.specs.contracts.init.limzhur_init_with as f

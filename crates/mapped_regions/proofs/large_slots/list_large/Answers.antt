@@ -3,9 +3,9 @@ use Rattle.std.proofs.lemmas.Bool.{cases_lt}
 use Rattle.paging_core.specs.Large.{slot_of}
 use Rattle.paging_core.specs.Walk.{large_of}
 use Rattle.page_ranges.proofs.Found.{none_of, some_of}
-use Rattle.heap_model.specs.Slots.{slot_number}
-use Rattle.heap_model.specs.Machine.{AreLargeSlots}
-use Rattle.heap_model.proofs.Slots.{slot_among}
+use Rattle.machine_model.specs.Slots.{slot_number}
+use Rattle.machine_model.specs.Machine.{AreLargeSlots}
+use Rattle.machine_model.proofs.Slots.{slot_among}
 use Rattle.mapped_regions.proofs.LargeSlots.{slots_more, slots_skip, slots_of}
 use Rattle.mapped_regions.proofs.large_slots.list_large.Goals as goal
 use Rattle.mapped_regions.proofs.large_slots.list_large.Goals.{then-is_some, else-is_some}

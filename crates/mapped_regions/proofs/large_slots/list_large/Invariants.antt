@@ -1,6 +1,6 @@
 use Rattle.std.proofs.Common.{◌+◌, ◌-◌, ◌*◌, ◌/◌, ◌<◌, ◌≤◌, ◌⊎◌}
 use Rattle.std.specs.Prelude.{vec_len, vec_capacity}
-use Rattle.heap_model.specs.Machine.{AreLargeSlots}
+use Rattle.machine_model.specs.Machine.{AreLargeSlots}
 use Rattle.mapped_regions.proofs.large_slots.list_large.Given as goal
 
 abbrev pub invariant-loop-slot : goal.invariant-loop-slot

@@ -1,9 +1,9 @@
 use Rattle.std.proofs.Common.{rules, ◌∷◌, [], Option, Some, None, refl, sym, subst}
 use Rattle.std.proofs.lemmas.List.{append-nil}
 use Rattle.std.proofs.lemmas.Result.{on_ok_weaker}
-use Rattle.heap_model.specs.declared.call.Call.{Call}
-use Rattle.heap_model.specs.Answer.{after}
-use Rattle.heap_model.specs.Run.{RunsTo}
+use Rattle.machine_model.specs.declared.call.Call.{Call}
+use Rattle.machine_model.specs.Answer.{after}
+use Rattle.machine_model.specs.Run.{RunsTo}
 use Rattle.kernel_heap.specs.Steps.{StepsTo}
 use Rattle.kernel_heap.proofs.Steps.{step_one}
 use Rattle.heap_program.specs.Text.{line_text}

@@ -1,7 +1,7 @@
 use Rattle.std.proofs.Common.{ℕ, ◌+◌, [], ◌∷◌, Some, refl, ◌∙◌, ap, subst}
-use Rattle.heap_model.specs.declared.call.Call.{Call}
-use Rattle.heap_model.specs.Answer.{after}
-use Rattle.heap_model.specs.Run.{RunsTo}
+use Rattle.machine_model.specs.declared.call.Call.{Call}
+use Rattle.machine_model.specs.Answer.{after}
+use Rattle.machine_model.specs.Run.{RunsTo}
 use Rattle.kernel_heap.specs.Steps.{StepsTo}
 use Rattle.kernel_heap.proofs.Steps.{step_one}
 use Rattle.heap_program.specs.Generator.{numbers_given}

@@ -1,7 +1,7 @@
 use Rattle.std.proofs.Common.{Option, ◌∷◌, [], string_bytes, ◌∙◌, ap, subst}
 use Rattle.std.proofs.lemmas.Result.{on_ok_weaker}
-use Rattle.heap_model.specs.declared.call.Call.{Call}
-use Rattle.heap_lines.specs.Grammar.{item_of}
+use Rattle.machine_model.specs.declared.call.Call.{Call}
+use Rattle.call_lines.specs.Grammar.{item_of}
 use Rattle.heap_program.specs.Responses.{HasResponded}
 use Rattle.heap_program.proofs.session.Session.respond_to_line.Goals as goal
 

@@ -1,6 +1,6 @@
 use Rattle.std.proofs.Common.{Option, ◌∷◌, [], refl, subst}
 use Rattle.std.proofs.lemmas.Result.{on_ok_weaker}
-use Rattle.heap_model.specs.declared.call.Call.{Call}
+use Rattle.machine_model.specs.declared.call.Call.{Call}
 use Rattle.heap_program.proofs.Runs.{responded_whole}
 use Rattle.heap_program.proofs.session.Session.whole_line.Goals as goal
 

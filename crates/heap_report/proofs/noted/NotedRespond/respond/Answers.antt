@@ -1,7 +1,7 @@
 use Rattle.std.proofs.Common.{◌∷◌, [], Option, refl, sym, subst, string_bytes}
 use Rattle.std.proofs.lemmas.List.{append-nil}
 use Rattle.std.proofs.lemmas.Result.{on_ok_weaker}
-use Rattle.heap_model.specs.declared.call.Call.{Call}
+use Rattle.machine_model.specs.declared.call.Call.{Call}
 use Rattle.heap_report.specs.Calls.{calls_in}
 use Rattle.heap_report.specs.Noting.{IsNoted}
 use Rattle.heap_report.specs.NotingLaws.{noted_none}

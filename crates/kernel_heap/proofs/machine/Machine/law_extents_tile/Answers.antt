@@ -1,10 +1,10 @@
 use Rattle.std.proofs.Common.{List, subst}
 use Rattle.dlmalloc_chunks.specs.declared.extent.Extent.{Extent}
 use Rattle.dlmalloc.specs.Listed.{IsListed}
-use Rattle.heap_model.specs.State.{State}
-use Rattle.heap_model.specs.Run.{IsGood}
-use Rattle.heap_model.specs.Machine.{Stands}
-use Rattle.heap_model.specs.Extents.{IsTiling}
+use Rattle.machine_model.specs.State.{State}
+use Rattle.machine_model.specs.Run.{IsGood}
+use Rattle.machine_model.specs.Machine.{Stands}
+use Rattle.machine_model.specs.Extents.{IsTiling}
 use Rattle.kernel_heap.specs.Heap.{word}
 use Rattle.kernel_heap.specs.Machine.{seen}
 use Rattle.kernel_heap.specs.Parts.{Parts}

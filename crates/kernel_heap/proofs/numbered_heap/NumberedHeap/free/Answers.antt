@@ -1,11 +1,11 @@
 use Rattle.std.proofs.Common.{rules, arith, ◌≤◌, vec_capacity, ◌≡◌, ◌∙◌, ap, refl, sym, subst, length, None}
-use Rattle.heap_model.proofs.Shortened.{length_cut}
+use Rattle.machine_model.proofs.Shortened.{length_cut}
 use Rattle.paged_systems.specs.System.{paged}
 use Rattle.kernel_heap.proofs.Laid.{laid_ended}
 use Rattle.kernel_heap.proofs.Ended.{free_shortened, step_ended}
-use Rattle.heap_model.specs.declared.call.Call.TheVariants.{Free}
-use Rattle.heap_model.specs.declared.answer.Refusal.TheVariants.{UnknownBlock}
-use Rattle.heap_model.specs.Refusal.{refuse_block}
+use Rattle.machine_model.specs.declared.call.Call.TheVariants.{Free}
+use Rattle.machine_model.specs.declared.answer.Refusal.TheVariants.{UnknownBlock}
+use Rattle.machine_model.specs.Refusal.{refuse_block}
 use Rattle.kernel_heap.specs.Machine.{seen_with}
 use Rattle.kernel_heap.specs.Numbered.{live_at}
 use Rattle.kernel_heap.proofs.BlockBytes.{unknown_same}

@@ -6,12 +6,12 @@ use Rattle.dlmalloc_chunks.proofs.PowersOfTwo.{power_from_test}
 use Rattle.dlmalloc.specs.Requested.{asked, IsServedAt, IsMemberServed}
 use Rattle.dlmalloc.specs.Written.{IsServedCleared}
 use Rattle.dlmalloc.specs.declared.heap.Dlmalloc.{Dlmalloc}
-use Rattle.heap_model.specs.declared.answer.Refusal.TheVariants.{BadAlign}
-use Rattle.heap_model.specs.declared.answer.Reply.TheVariants.{Block as Placed}
-use Rattle.heap_model.specs.Refusal.{refuse_request}
-use Rattle.heap_model.specs.Machine.{Stands}
-use Rattle.heap_model.specs.Run.{IsGood}
-use Rattle.heap_model.specs.State.{State}
+use Rattle.machine_model.specs.declared.answer.Refusal.TheVariants.{BadAlign}
+use Rattle.machine_model.specs.declared.answer.Reply.TheVariants.{Block as Placed}
+use Rattle.machine_model.specs.Refusal.{refuse_request}
+use Rattle.machine_model.specs.Machine.{Stands}
+use Rattle.machine_model.specs.Run.{IsGood}
+use Rattle.machine_model.specs.State.{State}
 use Rattle.paged_systems.specs.System.{paged}
 use Rattle.kernel_heap.specs.Heap.{regions, word, zeros, follows}
 use Rattle.kernel_heap.specs.Machine.{system_of, seen_with}

@@ -1,11 +1,11 @@
 use Rattle.std.proofs.Common.{◌≡◌, ℕ, ap, subst, sym, arith, List, Option, Some, None}
 use Rattle.std.proofs.lemmas.Result.{IfOk-weaker, on_err_weaker}
 use Rattle.dlmalloc.specs.declared.heap.Dlmalloc.{Dlmalloc}
-use Rattle.heap_model.specs.declared.call.Call.TheVariants.{Map}
-use Rattle.heap_model.specs.declared.answer.Reply.TheVariants.{Done}
-use Rattle.heap_model.specs.declared.region.Region.{Region}
-use Rattle.heap_model.specs.Room.{user_region}
-use Rattle.heap_model.specs.Machine.{Paged, AreLargeSlots, IsStep}
+use Rattle.machine_model.specs.declared.call.Call.TheVariants.{Map}
+use Rattle.machine_model.specs.declared.answer.Reply.TheVariants.{Done}
+use Rattle.machine_model.specs.declared.region.Region.{Region}
+use Rattle.machine_model.specs.Room.{user_region}
+use Rattle.machine_model.specs.Machine.{Paged, AreLargeSlots, IsStep}
 use Rattle.mapped_regions.specs.Mapped.{IsRegionJoined}
 use Rattle.paged_systems.specs.System.{paged}
 use Rattle.kernel_heap.specs.Machine.{system_of, seen_with}

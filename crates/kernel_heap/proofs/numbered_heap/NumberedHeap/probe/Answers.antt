@@ -1,11 +1,11 @@
 use Rattle.std.proofs.Common.{rules, ◌≡◌, ◌∙◌, ◌/◌, ap, sym, true, false, is_some, option_map}
 use Rattle.paging_core.specs.Address.{is_canonical}
 use Rattle.paging_core.specs.Walk.{walk_of, reached}
-use Rattle.heap_model.specs.Machine.{rights_of}
+use Rattle.machine_model.specs.Machine.{rights_of}
 use Rattle.paging_core.specs.ProcessorAccess.{fault_code}
-use Rattle.heap_model.specs.Probe.{is_access_granted}
+use Rattle.machine_model.specs.Probe.{is_access_granted}
 use Rattle.x86_flags.specs.PageFaultErrorCode.{page_fault_bits}
-use Rattle.heap_model.proofs.Probed.{step_byte, step_fault}
+use Rattle.machine_model.proofs.Probed.{step_byte, step_fault}
 use Rattle.paged_systems.specs.System.{paged}
 use Rattle.kernel_heap.specs.Machine.{seen_with}
 use Rattle.kernel_heap.proofs.numbered_heap.NumberedHeap.probe.Goals as goal

@@ -2,7 +2,7 @@ use Rattle.std.proofs.Common.{◌∙◌, refl, subst, sym}
 use Rattle.paged_systems.specs.System.{paged}
 use Rattle.paged_systems.specs.Written.{AreHeapBytes, AreRead}
 use Rattle.kernel_heap.proofs.BlockBytes.{block_inside, in_block, refuse_same, step_read}
-use Rattle.heap_model.specs.declared.call.Call.TheVariants.{Read}
+use Rattle.machine_model.specs.declared.call.Call.TheVariants.{Read}
 use Rattle.kernel_heap.specs.Machine.{seen_with}
 use Rattle.kernel_heap.proofs.Laid.{still_none}
 use Rattle.kernel_heap.proofs.Refused.{step_refused}

@@ -2,10 +2,10 @@ use Rattle.std.proofs.Common.{rules, arith, ℕ, Bool, true, false, None, ◌+�
 use Rattle.std.proofs.lemmas.Result.{IfOk-weaker, on_err_weaker}
 use Rattle.dlmalloc_chunks.specs.Request.{padded}
 use Rattle.dlmalloc.specs.Requested.{asked}
-use Rattle.heap_model.proofs.Shortened.{length_cut}
+use Rattle.machine_model.proofs.Shortened.{length_cut}
 use Rattle.paged_systems.specs.System.{paged}
-use Rattle.heap_model.specs.declared.answer.Reply.TheVariants.{Block as Placed}
-use Rattle.heap_model.specs.Machine.{IsStep}
+use Rattle.machine_model.specs.declared.answer.Reply.TheVariants.{Block as Placed}
+use Rattle.machine_model.specs.Machine.{IsStep}
 use Rattle.kernel_heap.specs.Machine.{seen_with}
 use Rattle.kernel_heap.specs.Numbered.{live_at}
 use Rattle.kernel_heap.specs.Blocks.{resizing, align_kept}
@@ -18,7 +18,7 @@ use Rattle.kernel_heap.proofs.Told.{slots_told, step_told, told_from}
 use Rattle.kernel_heap.proofs.LastingPages.{AsksForNone}
 use Rattle.kernel_heap.proofs.Served.{served, served_refused, unserved, answered}
 use Rattle.kernel_heap.proofs.WantOfRoom.{none_beside, left_refused, resizing_refused_moves, unknown_moves}
-use Rattle.heap_model.specs.declared.answer.Refusal.TheVariants.{UnknownBlock}
+use Rattle.machine_model.specs.declared.answer.Refusal.TheVariants.{UnknownBlock}
 use Rattle.kernel_heap.proofs.numbered_heap.NumberedHeap.resize.Goals as goal
 
 pub resize_live-requires : goal.resize_live-requires

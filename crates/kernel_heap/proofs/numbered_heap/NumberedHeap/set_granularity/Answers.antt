@@ -1,10 +1,10 @@
 use Rattle.std.proofs.Common.{rules, ◌≡◌, ◌∙◌, Bool, true, false, not, None, refl, ap, subst, sym}
 use Rattle.std.specs.Prelude.{if◌then◌else◌}
 use Rattle.dlmalloc.specs.State.{HeapState}
-use Rattle.heap_model.specs.declared.call.Call.TheVariants.{SetGranularity}
-use Rattle.heap_model.specs.declared.answer.Reply.TheVariants.{Accepted}
-use Rattle.heap_model.specs.Machine.{Seen, IsStep}
-use Rattle.heap_model.proofs.Settings.{step_granularity}
+use Rattle.machine_model.specs.declared.call.Call.TheVariants.{SetGranularity}
+use Rattle.machine_model.specs.declared.answer.Reply.TheVariants.{Accepted}
+use Rattle.machine_model.specs.Machine.{Seen, IsStep}
+use Rattle.machine_model.proofs.Settings.{step_granularity}
 use Rattle.kernel_heap.specs.Machine.{seen_with}
 use Rattle.kernel_heap.proofs.Served.{served}
 use Rattle.kernel_heap.proofs.SettingChanges.{seen_set, laid_set}

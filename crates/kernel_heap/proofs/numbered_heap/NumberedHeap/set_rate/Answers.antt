@@ -1,9 +1,9 @@
 use Rattle.std.proofs.Common.{rules, None, ap, subst, sym}
 use Rattle.dlmalloc.specs.State.{HeapState}
-use Rattle.heap_model.specs.declared.call.Call.TheVariants.{SetRate}
-use Rattle.heap_model.specs.declared.answer.Reply.TheVariants.{Done}
-use Rattle.heap_model.specs.Machine.{Seen, IsStep}
-use Rattle.heap_model.proofs.Settings.{step_rate}
+use Rattle.machine_model.specs.declared.call.Call.TheVariants.{SetRate}
+use Rattle.machine_model.specs.declared.answer.Reply.TheVariants.{Done}
+use Rattle.machine_model.specs.Machine.{Seen, IsStep}
+use Rattle.machine_model.proofs.Settings.{step_rate}
 use Rattle.kernel_heap.specs.Machine.{seen_with}
 use Rattle.kernel_heap.proofs.Served.{served}
 use Rattle.kernel_heap.proofs.SettingChanges.{seen_set, laid_set}

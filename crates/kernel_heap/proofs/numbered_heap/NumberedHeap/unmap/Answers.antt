@@ -1,7 +1,7 @@
 use Rattle.std.proofs.Common.{ℕ, ◌∙◌, None, ap, subst, sym}
-use Rattle.heap_model.specs.declared.call.Call.TheVariants.{Unmap}
-use Rattle.heap_model.specs.declared.answer.Reply.TheVariants.{Done}
-use Rattle.heap_model.specs.Machine.{IsStep}
+use Rattle.machine_model.specs.declared.call.Call.TheVariants.{Unmap}
+use Rattle.machine_model.specs.declared.answer.Reply.TheVariants.{Done}
+use Rattle.machine_model.specs.Machine.{IsStep}
 use Rattle.paged_systems.specs.System.{paged}
 use Rattle.kernel_heap.specs.Machine.{seen_with}
 use Rattle.kernel_heap.specs.Refusing.{unmap_refusal}

@@ -1,9 +1,9 @@
 use Rattle.std.proofs.Common.{◌∙◌, length, refl, None, subst, sym}
 use Rattle.paged_systems.specs.System.{paged}
 use Rattle.kernel_heap.proofs.BlockBytes.{in_block, refuse_same, step_written}
-use Rattle.heap_model.specs.declared.call.Call.TheVariants.{Write}
-use Rattle.heap_model.specs.declared.answer.Reply.TheVariants.{Done}
-use Rattle.heap_model.specs.Machine.{IsStep}
+use Rattle.machine_model.specs.declared.call.Call.TheVariants.{Write}
+use Rattle.machine_model.specs.declared.answer.Reply.TheVariants.{Done}
+use Rattle.machine_model.specs.Machine.{IsStep}
 use Rattle.kernel_heap.specs.Machine.{seen_with}
 use Rattle.kernel_heap.proofs.Laid.{laid_still, seen_beside, still_none}
 use Rattle.kernel_heap.proofs.Refused.{step_refused}

@@ -4,8 +4,8 @@ use denote.Param.Send.{IsSend, owning_send, struct_send, sendable}
 use denote.Signature.{static_lft}
 use denote.Struct.Owning.{shape, fields, to}
 use denote.Struct.Struct.{exits_of}
-use Rattle.heap_library.specs.contracts.checked.CheckedHeap as heap
-use Rattle.heap_library.proofs.checked.CheckedHeap.TheSendSync.{the_send}
+use Rattle.checked_heap.specs.contracts.checked.CheckedHeap as heap
+use Rattle.checked_heap.proofs.checked.CheckedHeap.TheSendSync.{the_send}
 use Rattle.limzhur_c.proofs.Sending.{lies, quiet}
 use Rattle.limzhur_c.specs.contracts.handle.Handle.{the_row, the_type}
 

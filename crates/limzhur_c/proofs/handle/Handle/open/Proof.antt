@@ -33,9 +33,9 @@ use denote.Triple.Table.{entered}
 use denote.Triple.Walked.{says, Stays, stay_dropped, walk_of, ends_at, walked, walk_Meets, Goes-spent_ref}
 use denote.Follow.{follows, Part, lends_Part}
 use Rattle.limzhur_c.specs.declared.handle.Handle.{Handle}
-use Rattle.heap_library.specs.declared.checked.CheckedHeap.{CheckedHeap}
+use Rattle.checked_heap.specs.declared.checked.CheckedHeap.{CheckedHeap}
 use Rattle.limzhur_c.specs.contracts.handle.Handle as H-type
-use Rattle.heap_library.specs.contracts.checked.CheckedHeap as R-type
+use Rattle.checked_heap.specs.contracts.checked.CheckedHeap as R-type
 use Rattle.limzhur_c.specs.contracts.handle.Handle.open as f
 use Rattle.limzhur_c.specs.contracts.handle.Handle.open.Key.{name as #open}
 use Rattle.limzhur_c.proofs.handle.Handle.open.Statement as stated

@@ -1,5 +1,5 @@
 use Rattle.std.proofs.Common.{◌^◌, List, subst, arith}
-use Rattle.heap_model.specs.declared.region.Region.{Region}
+use Rattle.machine_model.specs.declared.region.Region.{Region}
 use Rattle.meminterval.specs.Tree.{entries}
 use Rattle.mapped_regions.specs.Regions.{AreLaid}
 use Rattle.mapped_regions.proofs.Changes.{follow_length}

@@ -1,5 +1,5 @@
 use Rattle.std.proofs.Common.{◌≡◌, ◌∙◌, ◌+◌, ◌-◌, ◌*◌, ◌/◌, ◌%◌, ◌^◌, ◌<◌, arith, sym, ap, subst, ℕ, List, map}
-use Rattle.heap_model.specs.declared.region.Region.{Region}
+use Rattle.machine_model.specs.declared.region.Region.{Region}
 use Rattle.mapped_regions.specs.Regions.{AreLaid, AreTakenOut, IsRegionBoundary, cut_regions, with_page_count}
 use Rattle.meminterval.specs.Tree.{entries}
 use Rattle.mapped_regions.proofs.Listing.{laid}

@@ -1,6 +1,6 @@
 use Rattle.std.proofs.Common.{◌∙◌, ◌^◌, ◌≤◌, arith, sym, ap, subst, length, List, [], ◌∷◌, ◌++◌}
 use Rattle.std.specs.Prelude.{vec_capacity}
-use Rattle.heap_model.specs.declared.region.Region.{Region}
+use Rattle.machine_model.specs.declared.region.Region.{Region}
 use Rattle.meminterval.specs.Entry.{pair_of}
 use Rattle.meminterval.specs.Tree.{entries}
 use Rattle.mapped_regions.proofs.Passed.{behind_first}

@@ -1,6 +1,6 @@
 use Rattle.std.proofs.Common.{◌≡◌, ◌-◌, ◌^◌, ◌≤◌, List, length, filter}
 use Rattle.std.specs.Prelude.{vec_capacity}
-use Rattle.heap_model.specs.declared.region.Region.{Region}
+use Rattle.machine_model.specs.declared.region.Region.{Region}
 use Rattle.meminterval.specs.Tree.{entries}
 use Rattle.mapped_regions.specs.Pairs.{pair_regions}
 use Rattle.mapped_regions.proofs.Listing.{Listed}

@@ -1,13 +1,13 @@
 use Rattle.std.proofs.Common.{◌≡◌, ◌*◌, ◌^◌, sym, ◌∙◌, ap, subst, arith, List, Some, None}
 use Rattle.std.specs.List.{find}
-use Rattle.heap_model.specs.declared.region.Region.{Region}
-use Rattle.heap_model.specs.Place.{meets}
+use Rattle.machine_model.specs.declared.region.Region.{Region}
+use Rattle.machine_model.specs.Place.{meets}
 use Rattle.meminterval.specs.Entry.{pair_of}
 use Rattle.meminterval.specs.Tree.{entries}
 use Rattle.mapped_regions.proofs.Passed.{EndBefore, behind_first, last_is, clear_gap, clear_end, ends_none}
 use Rattle.mapped_regions.specs.Regions.{AreLaid}
 use Rattle.mapped_regions.proofs.Listing.{laid}
-use Rattle.heap_model.proofs.Regions.{find_none}
+use Rattle.machine_model.proofs.Regions.{find_none}
 use Rattle.mapped_regions.proofs.Meeting.{none_found, meets_last, meets_next}
 use Rattle.mapped_regions.proofs.region_tree.RegionTree.lowest_met.Goals as goal
 use Rattle.mapped_regions.proofs.region_tree.RegionTree.lowest_met.Goals.{in-Some+else-entry-first, in_default}

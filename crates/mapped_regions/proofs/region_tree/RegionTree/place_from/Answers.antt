@@ -1,8 +1,8 @@
 use Rattle.std.proofs.Common.{◌*◌, ◌^◌, sym, subst, arith, List}
-use Rattle.heap_model.specs.declared.region.Region.{Region}
+use Rattle.machine_model.specs.declared.region.Region.{Region}
 use Rattle.meminterval.specs.Entry.{pair_of}
 use Rattle.meminterval.specs.Tree.{entries}
-use Rattle.heap_model.specs.Place.{IsPlace, HasNoPlace}
+use Rattle.machine_model.specs.Place.{IsPlace, HasNoPlace}
 use Rattle.mapped_regions.proofs.Passed.{behind_first, starts_across, starts_over, starts_clear, goes_on, clear_gap, clear_end, is_place, no_place}
 use Rattle.mapped_regions.proofs.region_tree.RegionTree.place_from.Goals as goal
 use Rattle.mapped_regions.proofs.region_tree.RegionTree.place_from.Goals.{in-Some+then-entry-base, in-Some+else-entry-base, in_default}

@@ -3,7 +3,7 @@ use Rattle.meminterval.specs.declared.interval.Interval.{Interval}
 use Rattle.meminterval.specs.Tree.{entries}
 use Rattle.mapped_regions.specs.declared.region_tree.Kind.{Kind}
 use Rattle.mapped_regions.specs.Pairs.{pair_regions, Follow}
-use Rattle.heap_model.specs.declared.region.Region.{Region}
+use Rattle.machine_model.specs.declared.region.Region.{Region}
 use Rattle.mapped_regions.specs.Regions.{AreHeld, AreLaid, AreTakenOut, without_region}
 use Rattle.mapped_regions.proofs.Listing.{laid}
 use Rattle.mapped_regions.proofs.Taken.{taken_without}

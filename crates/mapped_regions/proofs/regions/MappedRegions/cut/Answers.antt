@@ -3,9 +3,9 @@ use Rattle.std.specs.List.{AllByRecursion}
 use Rattle.paging_core.specs.Address.{IsCanonicalRange}
 use Rattle.paging_core.specs.Walk.{walk_of}
 use Rattle.page_ranges.specs.RangeUnmapping.{NoLargePageReachesOver, cut_tables}
-use Rattle.heap_model.specs.State.{total_pages}
-use Rattle.heap_model.specs.Slots.{is_whole_in}
-use Rattle.heap_model.specs.Machine.{Paged}
+use Rattle.machine_model.specs.State.{total_pages}
+use Rattle.machine_model.specs.Slots.{is_whole_in}
+use Rattle.machine_model.specs.Machine.{Paged}
 use Rattle.mapped_regions.specs.Regions.{AreTakenOut, IsRegionBoundary, cut_regions}
 use Rattle.mapped_regions.specs.Mapped.{IsRegion, AreGone}
 use Rattle.mapped_regions.specs.Shown.{paged_view}

@@ -1,8 +1,8 @@
 use Rattle.std.proofs.Common.{rules, ◌≡◌, ◌+◌, ◌-◌, ◌/◌, ◌%◌, ◌^◌, refl, ap, ◌∙◌, subst, sym, arith, None}
 use Rattle.paging_core.specs.Walk.{walk_of}
 use Rattle.page_ranges.specs.RangeMapping.{IsRangeMapped}
-use Rattle.heap_model.specs.Machine.{Paged}
-use Rattle.heap_model.proofs.Regions.{within_bounds}
+use Rattle.machine_model.specs.Machine.{Paged}
+use Rattle.machine_model.proofs.Regions.{within_bounds}
 use Rattle.mapped_regions.specs.Mapped.{IsRegionJoined}
 use Rattle.mapped_regions.specs.Shown.{paged_view}
 use Rattle.mapped_regions.proofs.MetSlots.{met_stay}

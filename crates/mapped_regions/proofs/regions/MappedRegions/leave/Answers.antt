@@ -4,10 +4,10 @@ use Rattle.paging_core.specs.Address.{IsCanonicalRange}
 use Rattle.paging_core.specs.Walk.{walk_of}
 use Rattle.page_ranges.specs.RangeUnmapping.{NoLargePageReachesOver}
 use Rattle.page_ranges.proofs.Unmapped.{cut_none}
-use Rattle.heap_model.specs.State.{total_pages}
-use Rattle.heap_model.specs.Slots.{is_whole_in}
-use Rattle.heap_model.specs.Machine.{Paged}
-use Rattle.heap_model.proofs.Regions.{pages_without, all_without}
+use Rattle.machine_model.specs.State.{total_pages}
+use Rattle.machine_model.specs.Slots.{is_whole_in}
+use Rattle.machine_model.specs.Machine.{Paged}
+use Rattle.machine_model.proofs.Regions.{pages_without, all_without}
 use Rattle.mapped_regions.specs.Mapped.{IsRegion, IsLeft}
 use Rattle.mapped_regions.specs.Shown.{paged_view}
 use Rattle.mapped_regions.proofs.MetSlots.{tables_stay}

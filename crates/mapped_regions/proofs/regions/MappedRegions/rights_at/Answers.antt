@@ -1,7 +1,7 @@
 use Rattle.std.proofs.Common.{◌/◌, refl, ap, ◌∙◌, option_map, Bool}
 use Rattle.paging_core.specs.Walk.{walk_of}
 use Rattle.paging_core.specs.declared.page_table.Rights.{Rights}
-use Rattle.heap_model.specs.Machine.{rights_of}
+use Rattle.machine_model.specs.Machine.{rights_of}
 use Rattle.mapped_regions.specs.Regions.{kind_at}
 use Rattle.mapped_regions.specs.Shown.{paged_view}
 use Rattle.mapped_regions.proofs.Looked.{found_at, walked_none, walked_some}

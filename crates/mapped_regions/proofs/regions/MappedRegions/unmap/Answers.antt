@@ -1,6 +1,6 @@
 use Rattle.std.proofs.Common.{◌≡◌, ◌*◌, ◌/◌, ◌∙◌, true, false, refl, sym, ap, subst, Some}
 use Rattle.std.specs.List.{list_any}
-use Rattle.heap_model.specs.declared.region.Region.{Region}
+use Rattle.machine_model.specs.declared.region.Region.{Region}
 use Rattle.mapped_regions.specs.Regions.{is_at}
 use Rattle.mapped_regions.specs.Mapped.{IsPageRange}
 use Rattle.mapped_regions.specs.Shown.{paged_view}

@@ -1,6 +1,6 @@
 use Rattle.std.proofs.Common.{◌-◌, ◌≤◌}
 use Rattle.heap_memory.specs.Words.{AreCopied}
-use Rattle.heap_model.specs.Machine.{OnlyHeapBytesChange}
+use Rattle.machine_model.specs.Machine.{OnlyHeapBytesChange}
 use Rattle.mapped_regions.specs.Mapped.{word_reached}
 use Rattle.paged_systems.specs.System.{paged}
 use Rattle.paged_systems.specs.Words.{grants_of}

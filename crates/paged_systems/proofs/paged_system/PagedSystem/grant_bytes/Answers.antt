@@ -1,5 +1,5 @@
 use Rattle.std.proofs.Common.{◌<◌, Result, Ok, Err, OnOk, refl, subst, sym, arith}
-use Rattle.heap_model.specs.declared.region.Region.{Region}
+use Rattle.machine_model.specs.declared.region.Region.{Region}
 use Rattle.mapped_regions.specs.Mapped.{IsRegion, CanMap}
 use Rattle.mapped_regions.specs.Shown.{paged_view}
 use Rattle.paged_systems.specs.Layout.{CanGrant, IsGranted}

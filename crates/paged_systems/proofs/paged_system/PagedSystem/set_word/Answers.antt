@@ -1,6 +1,6 @@
 use Rattle.std.proofs.Common.{refl, sym, subst}
 use Rattle.heap_memory.specs.Words.{IsStored}
-use Rattle.heap_model.specs.Machine.{Paged, OnlyHeapBytesChange}
+use Rattle.machine_model.specs.Machine.{Paged, OnlyHeapBytesChange}
 use Rattle.mapped_regions.specs.Shown.{paged_view}
 use Rattle.paged_systems.specs.Layout.{IsPagedKept}
 use Rattle.paged_systems.specs.System.{paged}

@@ -1,9 +1,9 @@
 use Rattle.std.proofs.Common.{rules, ◌≡◌, ◌<◌, Result, Ok, Err, IfErr, subst, sym, arith}
 use Rattle.std.specs.Result.{IsErrAnd}
 use Rattle.heap_memory.specs.declared.grant.GrantFault.{GrantFault}
-use Rattle.heap_model.specs.Request.{pages_in}
+use Rattle.machine_model.specs.Request.{pages_in}
 use Rattle.paged_systems.specs.Layout.{LacksPlaceOrFrames}
-use Rattle.heap_model.specs.Machine.{Paged}
+use Rattle.machine_model.specs.Machine.{Paged}
 use Rattle.paged_systems.specs.System.{paged}
 use Rattle.paged_systems.specs.Twin.{IsTwin}
 use Rattle.paged_systems.proofs.Pages.{pages_some}

@@ -1,4 +1,0 @@
-use Rattle.block_rows.proofs.releases.unused_segments_go_back_by_trims.Given as goal
-
-abbrev pub ghosts-serve_given : goal.ghosts-serve_given
-ghosts-serve_given g a = record { name = a.blank.name; parts = a.blank.parts }

@@ -1,6 +1,0 @@
-use Rattle.std.proofs.Common.{ℕ}
-use Rattle.std.proofs.lemmas.List.{get_or-replicate, length-replicate}
-use Rattle.heap_figures.proofs.classes.tree_counts.Goals as goal
-
-pub loop-extent-init : goal.loop-extent-init
-loop-extent-init c = record { size = length-replicate {A = ℕ} 32 0; counts = λ index few. get_or-replicate {A = ℕ} 32 index 0 0 few }

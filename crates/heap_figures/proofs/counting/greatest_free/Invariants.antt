@@ -1,6 +1,0 @@
-use Rattle.std.proofs.Common.{◌≡◌, take}
-use Rattle.heap_figures.specs.Figures.{greatest_of}
-use Rattle.heap_figures.proofs.counting.greatest_free.Given as goal
-
-abbrev pub invariant-loop-extent : goal.invariant-loop-extent
-invariant-loop-extent l = l.greatest ≡ greatest_of (take l.extent-index l.extents)

@@ -1,7 +1,0 @@
-use Rattle.std.proofs.Common.{subst}
-use Rattle.dlmalloc.specs.Blocks.{BlocksAreApart}
-use Rattle.heap_library.specs.Checked.{arena_heap_state}
-use Rattle.heap_library.proofs.checked.CheckedHeap.law_blocks_apart.Goals as goal
-
-pub returns : goal.returns
-returns c = subst (λ heap. BlocksAreApart (arena_heap_state heap)) c.self.view_is c.law_blocks_apart.ensures

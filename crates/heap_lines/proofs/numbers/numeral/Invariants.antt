@@ -1,6 +1,0 @@
-use Rattle.std.proofs.Common.{drop, ◌<◌, ◌^◌}
-use Rattle.heap_lines.proofs.Numerals.{IsLeft}
-use Rattle.heap_lines.proofs.numbers.numeral.Given as goal
-
-abbrev pub invariant-loop-byte : goal.invariant-loop-byte
-invariant-loop-byte l = record { left : IsLeft l.base l.digits l.value (drop l.byte-index l.digits); fits : l.value < 2 ^ 64 }
