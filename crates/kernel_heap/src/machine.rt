@@ -1,5 +1,8 @@
 // The machine: a numbered heap over a paged system, which is always sound, and the registers of the processor.
-ghost use Rattle.std.specs.Prelude.{◌≡◌, IsTrue, IfOk, IfErr, IsOk, OnOk, OnErr};
+ghost use Rattle.std.specs.Prelude.{◌≡◌, ℕ, ◌^◌, ◌<◌, IsTrue, IfOk, IfErr, IsOk, OnOk, OnErr};
+ghost use Rattle.paging_core.specs.Memory.{frame_count};
+ghost use Rattle.mapped_regions.specs.Regions.{AreLaid};
+ghost use Rattle.mapped_regions.specs.FrameUse.{HasOneUse};
 ghost use Rattle.x86_registers.specs.Cr3.{root_of};
 ghost use Rattle.kernel_heap.specs.Config.{IsGoodConfig, IsConfigRefused};
 ghost use Rattle.kernel_heap.specs.Registers.{machine_cpu, cpu_after};
@@ -139,6 +142,16 @@ impl Machine {
         ensures { (s : State) (list : List Extent) → IsGood s → Stands (seen self.now) s → IsListed word self.now.heap.heap list → IsTiling s list }
     {
         self.heap.heap.law_intact();
+    }
+
+    /// Each frame of the physical memory serves for exactly one thing: it is free, or it holds one table that walks from
+    /// the root meet, or one page of one region, of the heap or of the user. A large page is 512 pages, each at a frame of
+    /// its own. No two regions have an address in common.
+    pub fn law_frames_have_one_use(&self)
+        ensures frames { (frame : ℕ) → frame < frame_count (seen self.now).paged.words → HasOneUse (seen self.now).paged frame }
+        ensures regions { AreLaid 0 (seen self.now).paged.regions (2 ^ 64) }
+    {
+        self.heap.heap.system().law_frames_have_one_use();
     }
 
     /// Serves a call. The answer is allowed in each good state for which the machine stands, the machine then stands for

@@ -18,3 +18,4 @@ pub mod NewSlots
 pub mod Ends
 pub mod UserRegions
 pub mod CutPages
+pub mod FrameUse

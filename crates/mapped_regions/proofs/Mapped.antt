@@ -1,18 +1,22 @@
 -- What is kept is kept when a region joins and when one leaves.
-use Rattle.std.proofs.Common.{◌≡◌, ℕ, ◌+◌, ◌-◌, ◌*◌, ◌/◌, ◌%◌, ◌^◌, ◌<◌, ◌≤◌, ◌||◌, ◌&&◌, ◌⊎◌, inl, inr, nat_le, nat_lt, nat_eq, List, [], ◌∷◌, length, refl, sym, ap, ◌∙◌, subst, arith, Bool, true, false, IsTrue, Option, Some, None, option_map, IsSome}
+use Rattle.std.proofs.Common.{◌≡◌, ◌≢◌, ℕ, ◌+◌, ◌-◌, ◌*◌, ◌/◌, ◌%◌, ◌^◌, ◌<◌, ◌≤◌, ◌||◌, ◌&&◌, ◌⊎◌, inl, inr, nat_le, nat_lt, nat_eq, List, [], ◌∷◌, length, set, replicate, refl, sym, ap, ◌∙◌, subst, arith, Bool, true, false, IsTrue, Option, Some, None, option_map, IsSome}
 use Rattle.std.specs.List.{list_any, AllByRecursion}
 use Rattle.std.proofs.lemmas.Bool.{cases_lt}
 use Rattle.std.proofs.lemmas.Bool.Decides.{nat_tests}
+use Rattle.std.proofs.lemmas.List.{get_or-replicate, get_or-set_other}
 use Rattle.paging_core.specs.Address.{is_canonical}
 use Rattle.paging_core.specs.Memory.{frame_count}
+use Rattle.paging_core.specs.Area.{Whole}
 use Rattle.paging_core.specs.Prefix.{prefix_of}
 use Rattle.paging_core.specs.Pool.{is_frame_free, FreeBelow}
-use Rattle.paging_core.specs.Walk.{Place, reach, large_of, walk_of, reached, place_with}
+use Rattle.paging_core.specs.Walk.{Place, reach, large_of, walk_of, reached, place_with, page_in, top}
 use Rattle.paging_core.specs.PageBits.{bits_of, bits_at}
-use Rattle.paging_core.specs.Tree.{IsTree}
+use Rattle.paging_core.specs.Tree.{IsTree, IsUnmet}
+use Rattle.paging_core.specs.PageChanges.{among}
+use Rattle.paging_core.proofs.Reach.{reach_in, reach_zero, table_none}
 use Rattle.paging_core.proofs.Reached.{some_not_none}
 use Rattle.paging_core.specs.declared.page_table.Rights.{Rights}
-use Rattle.page_ranges.specs.RangeUnmapping.{AreUnmapped, cut_tables}
+use Rattle.page_ranges.specs.RangeUnmapping.{AreUnmapped, IsCutPage, cuts_large_page, cut_tables}
 use Rattle.machine_model.specs.declared.region.Region.{Region}
 use Rattle.machine_model.specs.State.{is_within, total_pages}
 use Rattle.machine_model.specs.Place.{meets_any}
@@ -123,6 +127,8 @@ joined_mapped old new region m kind can j put elsewhere = record {
   larges = λ slot is some. ap (λ regions. is_whole_in regions slot) j.regions ∙ (any_with (has_whole slot) region old.regions
       ∙ whole slot is (subst (λ r. IsSome (large_of new.words r (slot_number slot))) j.added.root some)
       (large_of old.words old.root (slot_number slot)) refl (has_whole slot region) refl);
+  accounted = λ frame less unmet. (let s = j.added.added.pages_added.size in accounted frame (omega (arith, less, s))
+      (subst (λ r. IsUnmet Whole new.words r frame) j.added.root unmet));
 }
   where
     known : FreeBelow new.free (frame_count new.words)
@@ -130,6 +136,12 @@ joined_mapped old new region m kind can j put elsewhere = record {
       | true ↦ λ was. (let h = m.known f was in let s = j.added.added.pages_added.size in omega arith)
       | false ↦ λ was. (let h = j.added.added.pages_added.fewer f was in absurd (cc))
     ] refl
+
+    -- a frame that is not met was not met before either, and so it stays free
+    accounted : (frame : ℕ) → frame < frame_count old.words → IsUnmet Whole new.words old.root frame → is_frame_free new.free frame ≡ true
+    accounted frame less unmet =
+        j.added.added.pages_added.kept frame (m.accounted frame less (λ l n met le at is. unmet l n met le (j.added.added.pages_added.stayed l n met le at) is))
+        unmet
 
     -- a large page that was there lies whole in a region as before, and a new one in the region that joined
     whole : (slot : ℕ) → IsSlot slot → IsSome (large_of new.words old.root (slot_number slot)) → (was : Option Place) →
@@ -197,6 +209,12 @@ inside from to at above below = grind (arith, nat_tests)
 inside_bounds : (from to at : ℕ) → (nat_le from at && nat_lt at to) ≡ true → (from ≤ at) × (at < to)
 inside_bounds from to at is = (grind (arith, nat_tests), grind (arith, nat_tests))
 
+is_four : (level : ℕ) → nat_eq level 4 ≡ true → level ≡ 4
+is_four level t = grind (arith, nat_tests, t)
+
+below_four : (level : ℕ) → level ≤ 4 → nat_eq level 4 ≡ false → level < 4
+below_four level le t = grind (arith, nat_tests, t, le)
+
 pub fewer_mapped : (old new : Paged) (start pages : ℕ) → IsMapped old → IsPageRange start pages → total_pages new.regions + pages ≡ total_pages old.regions →
     AllByRecursion (IsRegion old.base old.pages) new.regions → ArePagesGone old new start pages →
     AreTakenOut start (start + 4096 * pages) old.regions new.regions → FreeBelow new.free (frame_count new.words) →
@@ -217,6 +235,8 @@ fewer_mapped old new start pages m range all regions g taken known whole = recor
       (λ (kind : Bool × Rights). bits_of kind.1) (kind_at new.regions (4096 * page))) (sym g.root)
       (found page canonical (nat_le start (4096 * page) && nat_lt (4096 * page) (start + 4096 * pages)) refl);
   larges = λ slot is some. larges slot is (subst (λ r. IsSome (large_of new.words r (slot_number slot))) g.root some);
+  accounted = λ frame less unmet. (let s = g.gone.size in accounted frame (omega (arith, less, s))
+      (subst (λ r. IsUnmet Whole new.words r frame) g.root unmet) (is_frame_free new.free frame) refl);
 }
   where
     aligned : start % 4096 ≡ 0
@@ -272,6 +292,47 @@ fewer_mapped old new start pages m range all regions g taken known whole = recor
         no_large slot k is some less one)) in
         whole slot is apart (m.larges slot is (subst IsSome same some))
 
+    -- the frame of a page that left is free, or it is that of the new table
+    still_met : (frame n : ℕ) (place : Place) → IsUnmet Whole new.words old.root frame → is_frame_free new.free frame ≡ false →
+        among (start / 4096) pages n ≡ true → reach old.words old.root 4 n ≡ Some place → place.frame ≡ frame → ⊥
+    still_met frame n place unmet used gone at same =
+        let free = g.gone.given n place gone at (λ large cut first. (
+        let slot : n / 512 ≡ prefix_of (start / 4096) 3 = omega (arith, first) in
+        let in_large = reach_in old.words old.root n large (ap (large_of old.words old.root) slot ∙ cut.there) in
+        let index : n % 512 ≡ start / 4096 % 512 = omega (arith, first) in
+        let frame_is : place.frame ≡ large.frame + n % 512 = some_frame place large (n % 512) (sym at ∙ in_large) in
+        unmet 3 (prefix_of (start / 4096) 3) (top (large.frame + start / 4096 % 512)) (omega arith) (g.gone.table large cut)
+        (ap (λ i. large.frame + i) (sym index) ∙ (sym frame_is ∙ same)))) in
+        let no : true ≡ false = sym free ∙ (ap (is_frame_free new.free) same ∙ used) in absurd (cc)
+      where
+        some_frame : (place large : Place) (index : ℕ) → Some place ≡ Some (page_in index large) → place.frame ≡ large.frame + index
+        some_frame place large index is = let same : place ≡ page_in index large = cc in ap (λ (q : Place). q.frame) same
+
+    -- what was met at a frame that is not met now was a page that left
+    unmet_before : (frame : ℕ) → IsUnmet Whole new.words old.root frame → is_frame_free new.free frame ≡ false →
+        (level n : ℕ) (met : Place) → level ≤ 4 → reach old.words old.root level n ≡ Some met → met.frame ≡ frame → ⊥
+    unmet_before frame unmet used level n met le at same = by_level (nat_eq level 4) refl (among (start / 4096) pages n) refl where
+      not_cut : level ≡ 3 → n ≡ prefix_of (start / 4096) 3 → cuts_large_page old.words old.root (start / 4096) ≡ false
+      not_cut three slot =
+          let none = table_none old.words old.root n met (subst (λ l. reach old.words old.root l n ≡ Some met) three at) in
+          let here : large_of old.words old.root (prefix_of (start / 4096) 3) ≡ None = ap (large_of old.words old.root) (sym slot) ∙ none in
+          rw here refl
+
+      by_level : (t : Bool) → nat_eq level 4 ≡ t → (b : Bool) → among (start / 4096) pages n ≡ b → ⊥
+      by_level false t b in_range =
+          unmet level n met le (g.gone.tables_stay level n (below_four level le t) (λ three slot. not_cut three slot) ∙ at) same
+      by_level true t b in_range = by_page b in_range (is_four level t)
+        where
+          by_page : (b : Bool) → among (start / 4096) pages n ≡ b → level ≡ 4 → ⊥
+          by_page true gone four = still_met frame n met unmet used gone (subst (λ l. reach old.words old.root l n ≡ Some met) four at) same
+          by_page false stays four = unmet 4 n met (omega arith) (g.gone.pages_stay n stays ∙ subst (λ l. reach old.words old.root l n ≡ Some met) four at) same
+
+    accounted : (frame : ℕ) → frame < frame_count old.words → IsUnmet Whole new.words old.root frame → (b : Bool) → is_frame_free new.free frame ≡ b →
+        is_frame_free new.free frame ≡ true
+    accounted frame less unmet true is = is
+    accounted frame less unmet false is =
+        g.gone.kept frame (λ n place gone at same. still_met frame n place unmet is gone at same) ∙ m.accounted frame less (unmet_before frame unmet is)
+
 -- ---- a range, and the region that has it
 
 -- a range ends with the address space at the latest
@@ -311,6 +372,7 @@ stored_mapped p words m size tree walks larges = record {
   regions = m.regions;
   found = λ page canonical. ap (option_map bits_at) (walks 4 (page % 2 ^ 36) (omega arith)) ∙ m.found page canonical;
   larges = λ slot is some. m.larges slot is (subst IsSome (larges (slot_number slot)) some);
+  accounted = λ frame less unmet. m.accounted frame (omega (arith, less, size)) (λ l n met le at is. unmet l n met le (walks l n le ∙ at) is);
 }
 
 -- ---- the list of slots
@@ -328,4 +390,17 @@ with_slots p slots m = record {
   regions = m.regions;
   found = m.found;
   larges = m.larges;
+  accounted = m.accounted;
 }
+
+-- ---- a new memory
+
+free_left : (count root frame : ℕ) → frame < count → frame ≢ root → is_frame_free (set (replicate count true) root false) frame ≡ true
+free_left count root frame less other = get_or-set_other (replicate count true) root frame false false other ∙ get_or-replicate count frame true false less
+
+-- all frames are free but that of the root, which the walk meets first
+pub new_accounted : (words : List ℕ) (root count : ℕ) (free : List Bool) → free ≡ set (replicate count true) root false → frame_count words ≡ count →
+    (frame : ℕ) → frame < frame_count words → IsUnmet Whole words root frame → is_frame_free free frame ≡ true
+new_accounted words root count free is frames frame less unmet =
+    let other : frame ≢ root = λ same. unmet 0 0 (top root) (omega arith) (reach_zero words root 0) (sym same) in
+    ap (λ flags. is_frame_free flags frame) is ∙ free_left count root frame (omega (arith, less, frames)) other

@@ -4,3 +4,4 @@ pub mod MetSlots
 pub mod Mapped
 pub mod Shown
 pub mod UserRegions
+pub mod FrameUse

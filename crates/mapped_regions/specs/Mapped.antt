@@ -5,11 +5,12 @@ use Rattle.std.specs.List.{AllByRecursion, AllByRecursion-prop}
 use Rattle.std.proofs.Props.{props}
 use Rattle.paging_core.specs.Address.{is_canonical, IsCanonicalRange}
 use Rattle.paging_core.specs.Memory.{frame_count, word_at}
-use Rattle.paging_core.specs.Pool.{FreeBelow, free_count}
+use Rattle.paging_core.specs.Area.{Whole}
+use Rattle.paging_core.specs.Pool.{is_frame_free, FreeBelow, free_count}
 use Rattle.paging_core.specs.Runs.{IsRunFree}
 use Rattle.paging_core.specs.Walk.{reach, large_of, walk_of, reached, Place}
 use Rattle.paging_core.specs.PageBits.{bits_of, bits_at}
-use Rattle.paging_core.specs.Tree.{IsTree}
+use Rattle.paging_core.specs.Tree.{IsTree, IsUnmet}
 use Rattle.paging_core.specs.Missing.{missing_of}
 use Rattle.machine_model.specs.declared.region.Region.{Region}
 use Rattle.machine_model.specs.State.{end_of_region, is_within, total_pages}
@@ -18,7 +19,8 @@ use Rattle.machine_model.specs.Room.{heap_rights}
 use Rattle.page_ranges.specs.RangeUnmapping.{cuts_large_page}
 use Rattle.machine_model.specs.Slots.{IsSlot, IsSlotOf, slot_number, is_whole_in}
 use Rattle.machine_model.specs.Machine.{Paged, HasGotPages, ArePagesGone}
-use Rattle.mapped_regions.specs.Regions.{kind_at, without_region, cut_regions}
+use Rattle.mapped_regions.specs.Regions.{IsRegionBoundary, kind_at, without_region, cut_regions}
+use Rattle.mapped_regions.specs.FrameUse.{AreFramesFree}
 
 -- whole pages from an address on: at least one, and all in one canonical half
 abbrev pub IsPageRange : ℕ → ℕ → Type 0
@@ -33,8 +35,8 @@ pub record IsRegion (base window : ℕ) (region : Region) : Type 0 where
   pub rights : region.heap ≡ true → region.rights ≡ heap_rights
 
 -- The tables form a tree; the walk finds a page exactly where a region has it, with the region's rights, of type 0,
--- as usual memory, and not global; each slot that one entry maps lies whole in a region; and each frame is free, or a table, or that
--- of a page of a region.
+-- as usual memory, and not global; each slot that one entry maps lies whole in a region; and each frame is free, or the
+-- walk meets it, as a table or as that of a page.
 pub record IsMapped (p : Paged) : Type 0 where
   pub window : IsPageRange p.base p.pages
   pub tree : IsTree p.words p.root p.free
@@ -48,6 +50,7 @@ pub record IsMapped (p : Paged) : Type 0 where
       (page : ℕ) → IsTrue (is_canonical (page * 4096)) →
       option_map bits_at (walk_of p.words p.root page) ≡ option_map (λ kind. bits_of kind.1) (kind_at p.regions (4096 * page))
   pub larges : (slot : ℕ) → IsSlot slot → IsSome (large_of p.words p.root (slot_number slot)) → IsTrue (is_whole_in p.regions slot)
+  pub accounted : (frame : ℕ) → frame < frame_count p.words → IsUnmet Whole p.words p.root frame → is_frame_free p.free frame ≡ true
 
 -- nothing is mapped, and all frames but that of the root are free
 pub record IsEmpty (p : Paged) (base pages frames : ℕ) : Type 0 where
@@ -96,14 +99,16 @@ pub record IsLeft (old new : Paged) (start pages : ℕ) : Type 0 where
   pub regions : new.regions ≡ without_region start pages old.regions
   pub gone : ArePagesGone old new start pages
   pub whole : cuts_large_page old.words old.root (start / 4096) ≡ false
+  pub frames : AreFramesFree old new start pages
 
 -- `pages` pages from an address on left the regions: one that begins among them left, and one that reaches there from
 -- before ends where they begin. They are no longer mapped and their frames are free, but for that of the table of a
 -- slot that was mapped by one entry and is left in part; the other tables stay, and so does every byte that is still
--- mapped.
+-- mapped. If none reaches there from before, no slot is left in part.
 pub record AreGone (old new : Paged) (start pages : ℕ) : Type 0 where
   pub regions : new.regions ≡ cut_regions start pages old.regions
   pub gone : ArePagesGone old new start pages
+  pub frames : IsRegionBoundary start old.regions → AreFramesFree old new start pages
 
 -- a word stands at the address, in a page that is mapped
 pub record IsMappedWord (p : Paged) (at : ℕ) : Type 0 where

@@ -3,13 +3,13 @@ ghost use Rattle.std.specs.Prelude.{◌≡◌, ℕ, ◌+◌, ◌*◌, ◌/◌, �
 ghost use Rattle.std.specs.List.{list_any};
 ghost use Rattle.std.specs.Option.{option_map};
 ghost use Rattle.paging_core.specs.Address.{is_canonical, IsCanonicalRange};
-ghost use Rattle.paging_core.specs.Memory.{byte_of, AreWordsWritten};
+ghost use Rattle.paging_core.specs.Memory.{byte_of, frame_count, AreWordsWritten};
 ghost use Rattle.paging_core.specs.Pool.{free_count};
 ghost use Rattle.paging_core.specs.Walk.{walk_of, reached};
 ghost use Rattle.paging_core.specs.Tree.{IsTree};
 ghost use Rattle.machine_model.specs.Place.{IsPlace, HasNoPlace};
 ghost use Rattle.machine_model.specs.Machine.{rights_of};
-ghost use Rattle.mapped_regions.specs.Regions.{is_at, kind_at, AreHeld, HasPlaces, IsRegionBoundary};
+ghost use Rattle.mapped_regions.specs.Regions.{is_at, kind_at, AreHeld, AreLaid, HasPlaces, IsRegionBoundary};
 ghost use Rattle.mapped_regions.specs.MetSlots.{AreMet, AreMet-prop};
 ghost use Rattle.mapped_regions.specs.Mapped.{IsPageRange, IsMapped, IsMapped-prop};
 
@@ -59,6 +59,7 @@ pub struct MappedRegions {
 
 impl MappedRegions {
     ghost use Rattle.mapped_regions.specs.Mapped.{IsEmpty, IsRegion, HasFrames, CanMap, IsRegionJoined, IsLeft, AreGone, IsMappedWord, word_reached};
+    ghost use Rattle.mapped_regions.specs.FrameUse.{HasOneUse};
     ghost use Rattle.mapped_regions.specs.Shown.{paged_view, KeptIfErr};
     ghost use Rattle.paging_core.specs.Stores.{KeepsTables, IsWordPut};
 
@@ -95,6 +96,17 @@ impl MappedRegions {
     {
         let list = Vec::with_capacity(alloc, self.regions.count())?;
         Ok(self.regions.list(list))
+    }
+
+    /// Each frame of the physical memory serves for exactly one thing: it is free, or it holds one table that walks from
+    /// the root meet, or one page of one region. A large page is 512 pages, each at a frame of its own. No two regions
+    /// have an address in common. It does nothing: its clauses are what a caller has by calling it.
+    pub fn law_frames_have_one_use(&self)
+        ensures frames { (frame : ℕ) → frame < frame_count (paged_view self.now).words → HasOneUse (paged_view self.now) frame }
+        ensures regions { AreLaid 0 (paged_view self.now).regions (2 ^ 64) }
+    {
+        // The tree says here how its regions lie.
+        let _ = self.regions.count();
     }
 
     /// The physical memory.

@@ -17,13 +17,14 @@ use Rattle.machine_model.specs.Machine.{Paged}
 use Rattle.mapped_regions.specs.Regions.{AreLaid, AreHeld, IsRegionBoundary}
 use Rattle.mapped_regions.proofs.Laying.{laid_cut}
 use Rattle.mapped_regions.specs.Mapped.{IsPageRange, IsMapped, AreGone, walked_word, word_reached}
+use Rattle.mapped_regions.specs.FrameUse.{AreFramesFree}
 use Rattle.mapped_regions.proofs.Looked.{first_canonical}
 use Rattle.paged_systems.specs.Window.{IsHeapWindow}
 use Rattle.paged_systems.specs.Layout.{IsPagedKept}
 use Rattle.paged_systems.specs.Words.{grants_of}
 use Rattle.paged_systems.proofs.Numbers.{is_outside}
 use Rattle.paged_systems.proofs.Releasing.{heap_grants}
-use Rattle.paged_systems.proofs.RunPages.{begins, count_is, held, boundary, grants_left, own_bounds, own_granted}
+use Rattle.paged_systems.proofs.RunPages.{begins, count_is, held, boundary, starts, grants_left, own_bounds, own_granted}
 use Rattle.paged_systems.proofs.Still.{granted_canonical, granted_mapped}
 
 -- granted bytes lie in the window
@@ -69,6 +70,11 @@ module _ (p : Paged) (at size left : ℕ) (kept : IsPagedKept p) (run : IsRun (g
 
   pub cut_ends : IsRegionBoundary (at + left + 4096 * ((size - left) / 4096)) p.regions
   cut_ends = subst (λ (high : ℕ). IsRegionBoundary high p.regions) (sym end_is) (boundary 0 (2 ^ 64) at size left p.regions kept.laid run less in_pages)
+
+  -- a whole run begins where a region does
+  pub cut_starts : left ≡ 0 → IsRegionBoundary (at + left) p.regions
+  cut_starts whole = subst (λ (low : ℕ). IsRegionBoundary low p.regions) (omega (arith, whole))
+      (starts 0 (2 ^ 64) at size left p.regions kept.laid run less in_pages)
 
 -- where nothing is behind them, all stays
 pub none_behind : (start high : ℕ) (regions : List Grant) → start ≤ high →
@@ -133,6 +139,11 @@ module _ (old new : Paged) (at size left : ℕ) (kept : IsPagedKept old) (run : 
           (omega (arith, less, in_pages, low_page, high_is)) kept.mapped.tree gone.gone.gone (k / 4096) (k % 4096 / 8)
           place (omega arith) (same ∙ found)
           ∙ sym (ap (walked_word old.words k) found))
+
+  -- the frames of a whole run are free
+  pub released_frames : left ≡ 0 → AreFramesFree old new at (size / 4096)
+  released_frames whole = λ page frame above below is.
+      gone.frames (cut_starts old at size left kept run less in_pages whole) page frame (omega (arith, whole, above)) (omega (arith, whole, below)) is
 
 -- what a system keeps, it keeps then
 pub kept_cut : (old new : Paged) (start pages : ℕ) → start % 4096 ≡ 0 → AreGone old new start pages → IsPagedKept old → IsMapped new → IsPagedKept new

@@ -101,6 +101,40 @@ run_boundary start high last (region ∷ rest) some is whole users = go region.h
           others all,
         )
 
+-- and none over its begin
+pub run_starts : (start high : ℕ) (regions : List Region) → start < high →
+    AllByRecursion (λ grant. IsApart start high grant ⊎ IsWithin start high grant) (heap_grants regions) →
+    AllByRecursion (λ region. region.heap ≡ false → is_within start region ≡ false) regions → IsRegionBoundary start regions
+run_starts start high [] some whole users = tt
+run_starts start high (region ∷ rest) some whole users = go region.heap refl (λ all. run_starts start high rest some all users.1)
+  where
+    go : (heap : Bool) → region.heap ≡ heap → (AllByRecursion (λ grant.
+        IsApart start high grant ⊎ IsWithin start high grant) (heap_grants rest) → IsRegionBoundary start rest) →
+        IsRegionBoundary start (region ∷ rest)
+    go true own others =
+        let all = subst (λ (b : Bool). AllByRecursion (λ grant. IsApart start high grant ⊎ IsWithin start high grant)
+        (map grant_of (cond b (region ∷ heap_regions rest) (heap_regions rest)))) own whole in (
+          elim all.0 [
+            | inl (inl below) ↦ inl below
+            | inl (inr above) ↦ inr (omega (arith, some, above))
+            | inr within ↦ inr within.0
+          ],
+          others all.1,
+        )
+    go false user others =
+        let all = subst (λ (b : Bool). AllByRecursion (λ grant. IsApart start high grant ⊎ IsWithin start high grant)
+        (map grant_of (cond b (region ∷ heap_regions rest) (heap_regions rest)))) user whole in
+        let out : is_within start region ≡ false = users.0 user in (
+          elim (cases_lt region.start start) [
+            | inr behind ↦ inr behind
+            | inl before ↦ elim (cases_lt start (end_of_region region)) [
+              | inl over ↦ absurd (let in_it : is_within start region ≡ true = grind (arith, nat_tests) in cc)
+              | inr ends ↦ inl ends
+            ]
+          ],
+          others all,
+        )
+
 -- each region of the heap is apart from the bytes from low on and below high, or in them
 abbrev pub AreBeside : ℕ → ℕ → List Region → Type 0
 AreBeside low high regions = AllByRecursion (λ grant. IsApart low high grant ⊎ IsWithin low high grant) (heap_grants regions)
@@ -174,6 +208,10 @@ module _ (from to at size left : ℕ) (regions : List Region) (laid : AreLaid fr
   pub boundary : IsRegionBoundary (at + size) regions
   boundary = let some : at < at + size = run.some in run_boundary at (at + size) (at + size - 1) regions some (omega arith) run.whole
       (none_of_user from to (at + size - 1) regions laid (run_own (at + size - 1) (omega arith) (omega arith)))
+
+  pub starts : IsRegionBoundary at regions
+  starts = let some : at < at + size = run.some in run_starts at (at + size) regions some run.whole
+      (none_of_user from to at regions laid (run_own at (omega arith) (omega arith)))
 
   pub held : AreHeld (at + left) (at + size) regions
   held address low high = own_within address regions (run_own address (omega arith) high)

@@ -1,9 +1,11 @@
 // The paged system: regions of the heap in a window, and regions of the user anywhere.
 ghost use Rattle.std.specs.Prelude.{◌≡◌, ℕ, ◌+◌, ◌*◌, ◌/◌, ◌^◌, ◌<◌, ◌≤◌, ◌%◌, IsTrue, IsSome, Some, option_map, IfOk, IfErr, OnErr, length, vec_capacity, []};
 ghost use Rattle.paging_core.specs.Address.{is_canonical};
+ghost use Rattle.paging_core.specs.Memory.{frame_count};
 ghost use Rattle.paging_core.specs.Pool.{free_count};
 ghost use Rattle.paging_core.specs.Walk.{walk_of, reached};
-ghost use Rattle.mapped_regions.specs.Regions.{kind_at};
+ghost use Rattle.mapped_regions.specs.Regions.{kind_at, AreLaid};
+ghost use Rattle.mapped_regions.specs.FrameUse.{HasOneUse};
 ghost use Rattle.machine_model.specs.Machine.{rights_of};
 ghost use Rattle.machine_model.specs.Room.{heap_region as granted_region, heap_rights as granted_rights};
 ghost use Rattle.paged_systems.specs.Window.{IsHeapWindow};
@@ -83,6 +85,16 @@ impl PagedSystem {
         ensures { IfOk result (λ list. list ≡ (paged self.now).regions) }
     {
         self.regions.regions(alloc)
+    }
+
+    /// Each frame of the physical memory serves for exactly one thing: it is free, or it holds one table that walks from
+    /// the root meet, or one page of one region. A large page is 512 pages, each at a frame of its own. No two regions
+    /// have an address in common. It does nothing: its clauses are what a caller has by calling it.
+    pub fn law_frames_have_one_use(&self)
+        ensures frames { (frame : ℕ) → frame < frame_count (paged self.now).words → HasOneUse (paged self.now) frame }
+        ensures regions { AreLaid 0 (paged self.now).regions (2 ^ 64) }
+    {
+        self.regions.law_frames_have_one_use();
     }
 
     /// The physical memory.

@@ -10,7 +10,8 @@ use Rattle.mapped_regions.specs.Regions.{AreTakenOut, IsRegionBoundary, cut_regi
 use Rattle.mapped_regions.specs.Mapped.{IsRegion, AreGone}
 use Rattle.mapped_regions.specs.Shown.{paged_view}
 use Rattle.mapped_regions.proofs.MetSlots.{cut_stay}
-use Rattle.mapped_regions.proofs.Ends.{none_over, whole_cut}
+use Rattle.mapped_regions.proofs.Ends.{none_over, no_cut, whole_cut}
+use Rattle.mapped_regions.proofs.FrameUse.{frames_free}
 use Rattle.mapped_regions.proofs.Mapped.{held_mapped, pages_gone, fewer_mapped, range_canonical, range_ends}
 use Rattle.mapped_regions.proofs.CutPages.{cut_count, regions_cut}
 use Rattle.mapped_regions.proofs.regions.MappedRegions.cut.Goals as goal
@@ -62,12 +63,15 @@ gone c =
     ap (cut_tables c.args.self.now.frames c.args.self.now.root) first in
     let before = c.free_count-free.ensures in
     let now = c.free_count.ensures in
+    let gone = pages_gone (paged_view c.args.self.now) c.unmap_pages.new.frames c.unmap_pages.new.pool c.cut.new.self
+    (after c).tables c.containing_address.result c.args.start c.args.pages first
+    c.unmap_pages.ensures.unmapped c.unmap_pages.ensures.tree c.unmap_pages.ensures.gone.unmapped
+    c.unmap_pages.ensures.gone.elsewhere c.unmap_pages.ensures.gone.bytes (omega arith) in
     record {
       regions = c.cut.ensures.regions ∙ ap (λ a. cut_regions a c.args.pages (paged_view c.args.self.now).regions) (page_is c.args.start c.requires.range.0);
-      gone = pages_gone (paged_view c.args.self.now) c.unmap_pages.new.frames c.unmap_pages.new.pool c.cut.new.self
-          (after c).tables c.containing_address.result c.args.start c.args.pages first
-          c.unmap_pages.ensures.unmapped c.unmap_pages.ensures.tree c.unmap_pages.ensures.gone.unmapped
-          c.unmap_pages.ensures.gone.elsewhere c.unmap_pages.ensures.gone.bytes (omega arith);
+      gone = gone;
+      frames = λ starts. frames_free (paged_view c.args.self.now) (after c) c.args.start c.args.pages c.requires.range gone
+          (no_cut (paged_view c.args.self.now) c.args.start c.args.pages c.args.self.now.mapped c.requires.range starts);
     }
 
 taken : (c : After-forget_pages) → AreTakenOut c.args.start (c.args.start + 4096 * c.args.pages) (paged_view c.args.self.now).regions c.cut.new.self

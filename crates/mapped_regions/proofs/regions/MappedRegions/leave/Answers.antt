@@ -12,6 +12,7 @@ use Rattle.mapped_regions.specs.Mapped.{IsRegion, IsLeft}
 use Rattle.mapped_regions.specs.Shown.{paged_view}
 use Rattle.mapped_regions.proofs.MetSlots.{tables_stay}
 use Rattle.mapped_regions.proofs.Ends.{listed_ends, listed_starts, none_over, no_cut, whole_without}
+use Rattle.mapped_regions.proofs.FrameUse.{frames_free}
 use Rattle.mapped_regions.proofs.Mapped.{mapped, pages_gone, fewer_mapped, listed_range, range_canonical, range_ends_at}
 use Rattle.mapped_regions.proofs.regions.MappedRegions.leave.Goals as goal
 use Rattle.mapped_regions.proofs.regions.MappedRegions.leave.Goals.{After-forget_pages}
@@ -58,13 +59,15 @@ left c =
     range
     (listed_starts c.args.region.now.start c.args.region.now.pages 0 (2 ^ 64) (paged_view c.args.self.now).regions c.count.ensures.laid c.requires.there) in
     let none = cut_none c.args.self.now.frames c.args.self.now.root (c.args.region.now.start / 4096) whole in
+    let gone = pages_gone (paged_view c.args.self.now) c.unmap_pages.new.frames c.unmap_pages.new.pool c.remove.new.self
+    c.args.self.now.tables c.containing_address.result c.args.region.now.start c.args.region.now.pages first
+    c.unmap_pages.ensures.unmapped c.unmap_pages.ensures.tree c.unmap_pages.ensures.gone.unmapped
+    c.unmap_pages.ensures.gone.elsewhere c.unmap_pages.ensures.gone.bytes (omega arith) in
     record {
       regions = c.remove.ensures.regions;
-      gone = pages_gone (paged_view c.args.self.now) c.unmap_pages.new.frames c.unmap_pages.new.pool c.remove.new.self
-          c.args.self.now.tables c.containing_address.result c.args.region.now.start c.args.region.now.pages first
-          c.unmap_pages.ensures.unmapped c.unmap_pages.ensures.tree c.unmap_pages.ensures.gone.unmapped
-          c.unmap_pages.ensures.gone.elsewhere c.unmap_pages.ensures.gone.bytes (omega arith);
+      gone = gone;
       whole = whole;
+      frames = frames_free (paged_view c.args.self.now) (after c) c.args.region.now.start c.args.region.now.pages range gone whole;
     }
 
 pub invariant_of-self : goal.invariant_of-self

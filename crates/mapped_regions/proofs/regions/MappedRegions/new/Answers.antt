@@ -1,4 +1,4 @@
-use Rattle.std.proofs.Common.{◌≡◌, ◌*◌, ◌/◌, ap, ◌∙◌, sym, subst, length, true, List, Bool, option_map, arith}
+use Rattle.std.proofs.Common.{◌≡◌, ◌*◌, ◌/◌, ap, ◌∙◌, sym, subst, length, set, true, false, List, Bool, option_map, arith}
 use Rattle.std.specs.List.{AllByRecursion}
 use Rattle.std.proofs.lemmas.List.{length-replicate}
 use Rattle.paging_core.specs.Memory.{frame_count}
@@ -8,7 +8,7 @@ use Rattle.machine_model.specs.declared.region.Region.{Region}
 use Rattle.machine_model.specs.State.{total_pages}
 use Rattle.mapped_regions.specs.Regions.{kind_at}
 use Rattle.mapped_regions.specs.Mapped.{IsRegion}
-use Rattle.mapped_regions.proofs.Mapped.{none_large}
+use Rattle.mapped_regions.proofs.Mapped.{none_large, new_accounted}
 use Rattle.mapped_regions.proofs.regions.MappedRegions.new.Goals as goal
 
 pub invariant_of-result : goal.invariant_of-result
@@ -33,5 +33,7 @@ invariant_of-result c =
             ∙ ap (λ (rs : List Region). option_map (λ (kind : Bool × Rights). bits_of kind.1) (kind_at rs (4096 * page)))
             (sym c.new-5.ensures);
         larges = none_large c.make_root.new.frames c.in-Some.root c.new-5.result c.in-Some.ensures.made.no_large;
+        accounted = new_accounted c.make_root.new.frames c.in-Some.root c.args.frames c.make_root.new.pool
+            (c.in-Some.ensures.frame.taken.1 ∙ ap (λ (flags : List Bool). set flags c.in-Some.root false) c.in_ok-pool.ensures.free) size;
       };
     }

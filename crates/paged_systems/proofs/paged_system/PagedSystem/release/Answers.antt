@@ -1,4 +1,4 @@
-use Rattle.std.proofs.Common.{◌≡◌, ℕ, ◌+◌, ◌-◌, ◌/◌, ◌<◌, ◌≤◌, inl, inr, sym, subst, arith}
+use Rattle.std.proofs.Common.{◌≡◌, ℕ, ◌+◌, ◌-◌, ◌/◌, ◌<◌, ◌≤◌, inl, inr, refl, sym, subst, arith}
 use Rattle.std.proofs.lemmas.Bool.{cases_lt}
 use Rattle.heap_memory.specs.Runs.{without_run}
 use Rattle.heap_memory.specs.RunLaws.{run_bounded}
@@ -6,7 +6,7 @@ use Rattle.mapped_regions.specs.Shown.{paged_view}
 use Rattle.paged_systems.specs.Ordered.{regions_whole}
 use Rattle.paged_systems.specs.System.{paged}
 use Rattle.paged_systems.specs.Words.{grants_of}
-use Rattle.paged_systems.proofs.ReleasedWords.{cut_range, cut_held, cut_ends, none_behind, released_regions, released_words, kept_cut}
+use Rattle.paged_systems.proofs.ReleasedWords.{cut_range, cut_held, cut_ends, none_behind, released_regions, released_words, released_frames, kept_cut}
 use Rattle.paged_systems.proofs.paged_system.PagedSystem.release.Goals as goal
 
 below : (left size : ℕ) → left ≤ size → (left ≡ size → ⊥) → left < size
@@ -63,4 +63,18 @@ returns-clause-released c = record {
   gone = λ less. c.cut.ensures;
   none = λ same. absurd (c.if-left-size.false same);
   mapped = c.cut.new.self.mapped;
+  frames = released_frames (paged c.args.self.now) (paged_view c.cut.new.self) c.args.at c.args.size
+      c.args.left c.args.self.now.kept c.requires.run
+      (below c.args.left c.args.size c.requires.within c.if-left-size.false) c.requires.in_pages c.cut.ensures;
+}
+
+pub returns-then-left-size-clause-released : goal.returns-then-left-size-clause-released
+returns-then-left-size-clause-released c = record {
+  run = c.requires.run;
+  within = c.requires.within;
+  in_pages = c.requires.in_pages;
+  gone = λ less. absurd (omega (arith, less, c.if-left-size.true));
+  none = λ all. refl;
+  mapped = c.args.self.now.kept.mapped;
+  frames = λ whole page frame above below is. absurd (omega (arith, c.if-left-size.true, whole, above, below));
 }
