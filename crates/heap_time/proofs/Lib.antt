@@ -1,4 +1,5 @@
 pub mod Ascending
 pub mod Numbers
+pub mod OnAxis
 pub mod Steps
 pub mod Tiles

@@ -8,6 +8,12 @@ few_pixels bytes height few low =
     let one = mul-le-mul_left bytes low in
     omega (arith, one, few)
 
+-- and times the units of an edge
+pub few_units : (part units : ℕ) → part ≤ 2 ^ 64 → units ≤ 2 ^ 16 → part * units ≤ 2 ^ 16 * 2 ^ 64
+few_units part units few low =
+    let one = mul-le-mul_left part low in
+    omega (arith, one, few)
+
 -- the multiple of a step at or below an address
 pub multiple_fits : (low step : ℕ) → low / step * step ≤ low
 multiple_fits low step = let fits = mul-div-le low step in omega (arith, fits)

@@ -8,8 +8,27 @@ use Rattle.heap_time.specs.declared.folding.Range.{Range}
 use Rattle.heap_time.specs.declared.folding.Folds.{Folds}
 use Rattle.heap_time.specs.declared.axis.Span.{Span}
 use Rattle.heap_time.specs.Axis.{all_ends, ascending, edges_of, first_edge, ranges_from, ranges_of, is_folded, scaled_bytes, folds_of, scaled, spans_from, spans_of, span_height, placed, bands_over, bands_of}
-use Rattle.heap_time.specs.Tiling.{TileDown, last_edge, FoldsHaveNoEdge, BandsTileTheAxis}
+use Rattle.heap_history.specs.declared.band.Band.{Band}
+use Rattle.heap_history.specs.declared.history.Stay.{Stay}
+use Rattle.heap_history.specs.declared.history.Held.{Held}
+use Rattle.heap_time.specs.Tiling.{TileDown, IsOutside}
 use Rattle.heap_time.proofs.Ascending.{Rises, ascending_rises}
+
+-- the greatest of some edges
+abbrev pub last_edge : List ℕ → ℕ
+last_edge [] = 0
+last_edge (edge ∷ []) = edge
+last_edge (edge ∷ (next ∷ edges)) = last_edge (next ∷ edges)
+
+-- no edge lies in a fold
+abbrev pub FoldsHaveNoEdge : List ℕ → List Band → Type 0
+FoldsHaveNoEdge edges bands = AllByRecursion (λ (band : Band). band.folded ≡ true → AllByRecursion (λ (edge : ℕ). IsOutside edge band) edges) bands
+
+-- The bands tile the axis from the greatest edge to the least, and no edge is in a fold.
+abbrev pub BandsTileTheEdges : Type 0
+BandsTileTheEdges =
+    (stays : List Stay) (heap : List Held) →
+    TileDown (last_edge (edges_of stays heap)) (bands_of stays heap) (first_edge (edges_of stays heap)) × FoldsHaveNoEdge (edges_of stays heap) (bands_of stays heap)
 
 -- ranges, one after another
 abbrev Follow : ℕ → List Range → ℕ → Type 0
@@ -184,6 +203,6 @@ over_tile (edge ∷ edges) rise =
           (spans_none (edge ∷ edges) folds edge edge ranges (ranges_none_in edge edges rise.1))),
     )
 
-pub bands_tile : BandsTileTheAxis
+pub bands_tile : BandsTileTheEdges
 unfolding edges_of bands_of
 bands_tile stays heap = over_tile (ascending (all_ends stays heap)) (ascending_rises (all_ends stays heap))

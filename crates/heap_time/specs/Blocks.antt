@@ -1,5 +1,5 @@
 -- The blocks of a run one by one, over the regions of the heap.
-use Rattle.std.specs.Prelude.{ℕ, ◌+◌, ◌-◌, List, [], ◌++◌, codes, decimal, if◌then◌else◌}
+use Rattle.std.specs.Prelude.{ℕ, ◌+◌, List, [], ◌++◌, codes, decimal, if◌then◌else◌}
 use Rattle.std.specs.List.{flat_map}
 use Rattle.heap_history.specs.declared.band.Band.{Band}
 use Rattle.heap_history.specs.declared.history.Stay.{Stay}
@@ -9,7 +9,8 @@ use Rattle.heap_history.specs.declared.history.Ending.TheVariants.{Live, Freed, 
 use Rattle.heap_map.specs.Words.{hexadecimal, commas, quantity}
 use Rattle.heap_map.specs.Shapes.{titled}
 use Rattle.heap_time.specs.declared.covers.Cover.{Cover}
-use Rattle.heap_time.specs.Covers.{stay_cover, held_cover, bottom_in, top_in, band_meets}
+use Rattle.heap_time.specs.Bands.{cover_left, cover_top, cover_width, cover_height}
+use Rattle.heap_time.specs.Covers.{stay_cover, held_cover, band_meets}
 use Rattle.heap_time.specs.Shapes.{region_words, view_text}
 
 -- the colour of a stay: of a block that is live at the end, and of one that is not, or not there
@@ -59,22 +60,23 @@ held_region_words held = hexadecimal held.start ++ (codes " + " ++ quantity (cod
 unfoldable pub held_title : Held → List ℕ
 held_title held = region_words ++ (codes " " ++ held_region_words held)
 
--- What a band has of a cover, in the units of a run: from its first call on for its calls, and from its top down for its bytes.
-unfoldable pub cover_text : Band → Cover → List ℕ → List ℕ → List ℕ
-cover_text band cover class title =
-    titled class cover.born (band.high - top_in band cover) (cover.end - cover.born) (top_in band cover - bottom_in band cover) title
+-- What a band has of a cover: over its calls, and from its highest address down to its lowest. A pixel each way is drawn at least.
+unfoldable pub cover_text : ℕ → Band → Cover → List ℕ → List ℕ → List ℕ
+cover_text calls band cover class title =
+    titled class (cover_left calls cover) (cover_top band cover) (cover_width calls cover) (cover_height band cover) title
 
 -- a stay in a band, if it has an address of it
-unfoldable pub stay_text : Band → Stay → List ℕ
-stay_text band stay = if band_meets band (stay_cover stay) then cover_text band (stay_cover stay) (stay_class stay.ending) (stay_title stay) else []
+unfoldable pub stay_text : ℕ → Band → Stay → List ℕ
+stay_text calls band stay =
+    if band_meets band (stay_cover stay) then cover_text calls band (stay_cover stay) (stay_class stay.ending) (stay_title stay) else []
 
 -- likewise a region
-unfoldable pub held_text : Band → Held → List ℕ
-held_text band held = if band_meets band (held_cover held) then cover_text band (held_cover held) (codes "heap") (held_title held) else []
+unfoldable pub held_text : ℕ → Band → Held → List ℕ
+held_text calls band held = if band_meets band (held_cover held) then cover_text calls band (held_cover held) (codes "heap") (held_title held) else []
 
 -- a band: the regions, and over them the stays
 unfoldable pub band_text : ℕ → List Stay → List Held → Band → List ℕ
-band_text calls stays heap band = view_text calls band ++ (flat_map (held_text band) heap ++ (flat_map (stay_text band) stays ++ codes "</svg>\n"))
+band_text calls stays heap band = view_text band ++ (flat_map (held_text calls band) heap ++ (flat_map (stay_text calls band) stays ++ codes "</svg>\n"))
 
 -- all bands
 unfoldable pub blocks_text : ℕ → List Band → List Stay → List Held → List ℕ

@@ -1,9 +1,11 @@
 // The blocks of a run one by one, over the regions of the heap.
 ghost use Rattle.std.specs.Prelude.{◌≡◌, ◌++◌, OnOk, string_bytes};
-ghost use Rattle.std.specs.List.{flat_map};
+ghost use Rattle.std.specs.List.{All, flat_map};
+ghost use Rattle.heap_time.specs.Bands.{IsBand};
 ghost use Rattle.heap_time.specs.Blocks.{stay_class, ending_words, end_words, until_words, block_words, calls_words, stay_title, held_region_words, held_title, cover_text, stay_text, held_text, band_text, blocks_text};
 
-use crate::covers::{Cover, bottom_in, held_cover, meets, stay_cover, top_in};
+use crate::bands::{cover_height, cover_left, cover_top, cover_width};
+use crate::covers::{Cover, held_cover, meets, stay_cover};
 use crate::shapes::{push_view, region_words};
 use heap_history::{Band, Ending, Held, Stay};
 use heap_map::{Area, push_address, push_commas, push_counted, push_titled};
@@ -106,31 +108,39 @@ fn push_held_title(out: &mut String, held: Held) -> Result<(), AllocError>
     push_pages(out, held)
 }
 
-// Puts what a band has of a cover at the end, in the units of a run.
+// Puts what a band has of a cover at the end.
 #[tactic(auto, unfolding(crate::specs::Blocks::cover_text))]
 fn push_cover(
     out: &mut String,
+    calls: u64,
     band: Band,
     cover: Cover,
     class: &str,
     title: &str,
 ) -> Result<(), AllocError>
-    ensures { OnOk result (string_bytes out.new ≡ string_bytes out.old ++ cover_text band cover class.now title.now) }
+    requires { IsBand band }
+    ensures { OnOk result (string_bytes out.new ≡ string_bytes out.old ++ cover_text calls band cover class.now title.now) }
 {
-    let top = top_in(band, cover);
     let area = Area {
-        x: u128::from(cover.born),
-        y: band.high.saturating_sub(top),
-        width: u128::from(cover.end.saturating_sub(cover.born)),
-        height: top.saturating_sub(bottom_in(band, cover)),
+        x: cover_left(calls, cover),
+        y: cover_top(band, cover),
+        width: cover_width(calls, cover),
+        height: cover_height(band, cover),
     };
     push_titled(out, class, area, title)
 }
 
 // Puts a stay at the end, if a band has an address of it.
 #[tactic(auto, unfolding(crate::specs::Blocks::stay_text))]
-fn push_stay(alloc: Global, out: &mut String, band: Band, stay: Stay) -> Result<(), AllocError>
-    ensures { OnOk result (string_bytes out.new ≡ string_bytes out.old ++ stay_text band stay) }
+fn push_stay(
+    alloc: Global,
+    out: &mut String,
+    calls: u64,
+    band: Band,
+    stay: Stay,
+) -> Result<(), AllocError>
+    requires { IsBand band }
+    ensures { OnOk result (string_bytes out.new ≡ string_bytes out.old ++ stay_text calls band stay) }
 {
     let cover = stay_cover(stay);
     if !meets(band, cover) {
@@ -138,13 +148,27 @@ fn push_stay(alloc: Global, out: &mut String, band: Band, stay: Stay) -> Result<
     }
     let mut title = String::new(alloc);
     push_stay_title(&mut title, stay)?;
-    push_cover(out, band, cover, stay_class(stay.ending), title.as_str())
+    push_cover(
+        out,
+        calls,
+        band,
+        cover,
+        stay_class(stay.ending),
+        title.as_str(),
+    )
 }
 
 // Puts a region at the end, if a band has an address of it.
 #[tactic(auto, unfolding(crate::specs::Blocks::held_text))]
-fn push_held(alloc: Global, out: &mut String, band: Band, held: Held) -> Result<(), AllocError>
-    ensures { OnOk result (string_bytes out.new ≡ string_bytes out.old ++ held_text band held) }
+fn push_held(
+    alloc: Global,
+    out: &mut String,
+    calls: u64,
+    band: Band,
+    held: Held,
+) -> Result<(), AllocError>
+    requires { IsBand band }
+    ensures { OnOk result (string_bytes out.new ≡ string_bytes out.old ++ held_text calls band held) }
 {
     let cover = held_cover(held);
     if !meets(band, cover) {
@@ -152,28 +176,37 @@ fn push_held(alloc: Global, out: &mut String, band: Band, held: Held) -> Result<
     }
     let mut title = String::new(alloc);
     push_held_title(&mut title, held)?;
-    push_cover(out, band, cover, "heap", title.as_str())
+    push_cover(out, calls, band, cover, "heap", title.as_str())
 }
 
 fn push_regions(
     alloc: Global,
     out: &mut String,
+    calls: u64,
     band: Band,
     heap: &[Held],
 ) -> Result<(), AllocError>
-    ensures { OnOk result (string_bytes out.new ≡ string_bytes out.old ++ flat_map (held_text band) heap.now) }
+    requires { IsBand band }
+    ensures { OnOk result (string_bytes out.new ≡ string_bytes out.old ++ flat_map (held_text calls band) heap.now) }
 {
     for held in heap {
-        push_held(alloc, out, band, *held)?;
+        push_held(alloc, out, calls, band, *held)?;
     }
     Ok(())
 }
 
-fn push_stays(alloc: Global, out: &mut String, band: Band, stays: &[Stay]) -> Result<(), AllocError>
-    ensures { OnOk result (string_bytes out.new ≡ string_bytes out.old ++ flat_map (stay_text band) stays.now) }
+fn push_stays(
+    alloc: Global,
+    out: &mut String,
+    calls: u64,
+    band: Band,
+    stays: &[Stay],
+) -> Result<(), AllocError>
+    requires { IsBand band }
+    ensures { OnOk result (string_bytes out.new ≡ string_bytes out.old ++ flat_map (stay_text calls band) stays.now) }
 {
     for stay in stays {
-        push_stay(alloc, out, band, *stay)?;
+        push_stay(alloc, out, calls, band, *stay)?;
     }
     Ok(())
 }
@@ -188,11 +221,12 @@ fn push_band(
     stays: &[Stay],
     heap: &[Held],
 ) -> Result<(), AllocError>
+    requires { IsBand band }
     ensures { OnOk result (string_bytes out.new ≡ string_bytes out.old ++ band_text calls stays.now heap.now band) }
 {
-    push_view(out, calls, band)?;
-    push_regions(alloc, out, band, heap)?;
-    push_stays(alloc, out, band, stays)?;
+    push_view(out, band)?;
+    push_regions(alloc, out, calls, band, heap)?;
+    push_stays(alloc, out, calls, band, stays)?;
     out.push_str("</svg>\n")
 }
 
@@ -206,6 +240,7 @@ pub fn push_blocks(
     stays: &[Stay],
     heap: &[Held],
 ) -> Result<(), AllocError>
+    requires { All IsBand bands.now }
     ensures { OnOk result (string_bytes out.new ≡ string_bytes out.old ++ blocks_text calls bands.now stays.now heap.now) }
 {
     for band in bands {
