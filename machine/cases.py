@@ -11,12 +11,14 @@ SLOT = 421                                  # the slot of the root table that is
 TABLES = 0x0e000000                         # from here on memory is the guest's
 ACCESSES = ('read', 'write', 'fetch')
 RESERVED = 8                                # the bit of a fault's code that says that a reserved bit was set
-MARKS = 0x60                                # accessed and dirty
+ACCESSED, DIRTY = 0x20, 0x40
+MARKS = ACCESSED | DIRTY
 
 # An access to a byte, the place of it by the walk (or None), and what is wanted: ('byte', value), or None for any value,
-# ('fault', code) or ('not canonical', None). `cr2` is what CR2 holds then.
-Probe = collections.namedtuple('Probe', 'address access user place wanted cr2')
-Case = collections.namedtuple('Case', 'name memory frames registers probes')
+# ('fault', code) or ('not canonical', None). `cr2` is what CR2 holds then; `ac` whether RFLAGS.AC is set.
+Probe = collections.namedtuple('Probe', 'address access user place wanted cr2 ac', defaults=[False])
+# `marked` has entries that granted accesses mark, by their places, with what they are then; None if it is not known.
+Case = collections.namedtuple('Case', 'name memory frames registers probes marked', defaults=[None])
 Found = collections.namedtuple('Found', 'vector error cr2 rip cs plain tagged')
 
 
@@ -44,7 +46,7 @@ def packed(case):
     parts = [struct.pack('<9Q', CASE, case.frames, *case.registers, len(case.memory), len(case.probes))]
     parts += [struct.pack('<QQ', *word) for word in sorted(case.memory.items())]
     for number, probe in enumerate(case.probes):
-        access = ACCESSES.index(probe.access) + (4 if probe.user else 0)
+        access = ACCESSES.index(probe.access) + (4 if probe.user else 0) + (8 if probe.ac else 0)
         parts.append(struct.pack('<4Q', probe.address, ALL if probe.place is None else probe.place, access, tag_of(number)))
     return b''.join(parts)
 
@@ -71,14 +73,25 @@ def is_known(probe, found):
 
 
 class Tally:
-    """How many agree, how many differ as QEMU is known to, and each disagreement as a line."""
+    """How many agree, how many differ as QEMU is known to, how many entries are marked, and each disagreement as a line."""
 
     def __init__(self):
-        self.agree, self.known, self.wrong = 0, 0, []
+        self.agree, self.known, self.marked, self.wrong = 0, 0, 0, []
+
+    def note_marks(self, case, changes):
+        """Each entry is dirty if and only if a granted access makes it so, or it was; and accessed if one does. The processor may
+        mark as accessed what a denied access went by, too."""
+        after = {place: word for place, _, word in changes}
+        for place in {*after, *case.marked}:
+            was = case.memory.get(place, 0)
+            wanted, found = case.marked.get(place, was) | was, after.get(place, was)
+            if (wanted ^ found) & DIRTY or wanted & ~found & ACCESSED:
+                self.wrong.append(f'{case.name}: the entry at {place:#x} was {was:#x}, is {found:#x}, wanted {wanted:#x}')
+            self.marked += wanted != was
 
     def note(self, case, probe, found, tag):
         kind, value = probe.wanted
-        who = 'user' if probe.user else 'supervisor'
+        who = ('user' if probe.user else 'supervisor') + (' with AC' if probe.ac else '')
         if is_right(probe, found, tag):
             self.agree += 1
         elif is_known(probe, found):
@@ -114,7 +127,10 @@ def compare(guest, cases, may_mark=False):
     with qemu.memory_after(guest, b''.join(map(packed, cases))) as file:
         file.seek(RESULTS)
         for case in cases:
-            for place, before, after in judge(file, case, tally):
+            changes = judge(file, case, tally)
+            if case.marked is not None:
+                tally.note_marks(case, changes)
+            for place, before, after in changes:
                 is_mark = may_mark and before & 1 and not (before ^ after) & ~MARKS
                 if not is_mark:
                     tally.wrong.append(f'{case.name}: the word at {place:#x} was {before:#x} and is {after:#x}')
@@ -128,5 +144,6 @@ def told(guest, cases, what, may_mark=False):
         print('WRONG', line)
     total = tally.agree + tally.known + len(tally.wrong)
     known = f', {tally.known} known differences of QEMU' if tally.known else ''
-    print(f'{len(cases)} {what}: {total} probes, {tally.agree} agree, {len(tally.wrong)} disagree{known}')
+    marked = f'; {tally.marked} entries are marked as wanted' if tally.marked and not tally.wrong else ''
+    print(f'{len(cases)} {what}: {total} probes, {tally.agree} agree, {len(tally.wrong)} disagree{known}{marked}')
     return 1 if tally.wrong or not tally.agree else 0

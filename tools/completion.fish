@@ -38,5 +38,5 @@ end
 for name in heap heap_report heap_picture
     complete -c $name -f -a '(__limzhur_heap)'
 end
-complete -c library -f -a '--kernel --preload --package --install --help'
+complete -c library -f -a '--kernel --guest --preload --package --install --help'
 complete -c example -f -a '(eval (commandline -opc)[1])'

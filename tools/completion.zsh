@@ -26,4 +26,4 @@ _limzhur_example() {
 
 compdef _limzhur_heap heap ./heap heap_report ./heap_report heap_picture ./heap_picture
 compdef _limzhur_example tools/example
-compdef 'compadd -- --kernel --preload --package --install --help' library ./library
+compdef 'compadd -- --kernel --guest --preload --package --install --help' library ./library

@@ -15,6 +15,13 @@ attempt:
     movq $0x100, seen + 8(%rip)     /* no vector yet */
     movq $0, seen + 16(%rip)
     mov $0x102, %r8                 /* with the trap flag one instruction runs at most */
+    mov %rsi, %r9                   /* AC, if it is to be set */
+    and $8, %r9
+    shl $15, %r9
+    pushf
+    or %r9, (%rsp)
+    popf
+    and $7, %esi
     cmp $1, %esi
     jb read
     je write
@@ -35,6 +42,7 @@ write:
     jmp come_back
 fetch:
     mov %rsp, %rax
+    or %r9, %r8
     pushq $16
     push %rax
     push %r8
@@ -49,6 +57,7 @@ user_writes:
     movabs $BASE + USER_PAGE + write_of_user - user_code, %rcx
     mov $2, %r8
 to_user:
+    or %r9, %r8
     pushq $0x1b
     movabs $BASE + USER_PAGE + 0x1000, %rax
     push %rax

@@ -97,6 +97,9 @@ note:
     mov %rax, seen + 40(%rip)       /* its code segment */
     .globl come_back
 come_back:
+    pushf
+    andq $~0x40000, (%rsp)          /* AC is set for a single access */
+    popf
     mov %cr2, %rax
     mov %rax, seen + 24(%rip)
     mov kept_stack(%rip), %rsp

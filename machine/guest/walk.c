@@ -6,7 +6,8 @@
 #define CASE 0x6d6d75
 struct image { u64 magic, frames, cr0, cr2, cr3, cr4, efer, words, probes; };
 struct word { u64 place, value; };
-/* An access: 0 reads, 1 writes, 2 fetches, and 4 more is by ring 3. The byte `tag` is put at the place, if there is one. */
+/* An access: 0 reads, 1 writes, 2 fetches; 4 more is by ring 3, and 8 more with RFLAGS.AC. The byte `tag` is put at the place, if
+ * there is one. */
 struct probe { u64 address, place, access, tag; };
 #define NOWHERE (~0ull)
 

@@ -4,30 +4,42 @@
 //! in memory that the program finds as it runs (`Limzhur::init`). One lock goes around each call: `Spin`, which needs no
 //! system, or `Owner`, which knows the thread that holds it, or the program's own (`Lock`).
 //!
-//! `Tables` are page tables for a kernel, in frames that it lends.
+//! `Tables` are page tables for a kernel, in frames that it lends. With the feature `guest`, the module `guest` has the walk of a
+//! guest's page tables.
 //!
 //! A program that forks while threads allocate calls `watch_forks!(HEAP)` first. Without it a child may find the lock held
 //! by a thread that it does not have, and waits for ever.
 #![no_std]
 
+#[cfg(feature = "heap")]
 mod flags;
+#[cfg(feature = "guest")]
+pub mod guest;
+#[cfg(feature = "heap")]
 mod heap;
+#[cfg(feature = "heap")]
 mod library;
+#[cfg(feature = "heap")]
 mod lock;
-#[cfg(unix)]
+#[cfg(all(feature = "heap", unix))]
 mod owner;
+#[cfg(feature = "heap")]
 mod tables;
 
+#[cfg(feature = "heap")]
 pub use flags::Flags;
+#[cfg(feature = "heap")]
 pub use heap::Limzhur;
+#[cfg(feature = "heap")]
 pub use lock::{Entry, Lock, Spin};
-#[cfg(unix)]
+#[cfg(all(feature = "heap", unix))]
 pub use owner::Owner;
+#[cfg(feature = "heap")]
 pub use tables::{Fault, FlaggedPlace, Place, Rights, Tables};
 
 /// Has the system take the lock of a heap around each fork, so that each child finds the heap at rest: `watch_forks!(HEAP)`,
 /// once, before the first fork. False where the system has no room to note it.
-#[cfg(unix)]
+#[cfg(all(feature = "heap", unix))]
 #[macro_export]
 macro_rules! watch_forks {
     ($heap:path) => {{

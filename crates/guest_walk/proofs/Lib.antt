@@ -1,0 +1,2 @@
+pub mod GuestSteps
+pub mod Usual

@@ -1,0 +1,4 @@
+pub mod Mode
+pub mod GuestWalk
+pub mod GuestAccess
+pub mod Laws
