@@ -179,7 +179,7 @@ fn a_run_is_drawn_over_its_calls(rt: HostRuntime) -> Result<(), Fail> {
         b"malloc 1000\nmalloc 24\nmalloc 200\nfree 0\nmalloc 24\ncalloc 300\nrealloc 1 120\nmalloc 64 64\nfree 2\nmalloc 400\n".as_slice(),
         &[
             "<text class=\"h\" x=\"24\" y=\"40\">The heap over 10 calls</text>\n",
-            "<svg x=\"144\" y=\"103\" width=\"1024\" height=\"336\" viewBox=\"0 0 10 1256\" preserveAspectRatio=\"none\">\n<rect class=\"heap\" x=\"0\" y=\"0\" width=\"10\" height=\"1256\"><title>heap region 0x400000 + 16 pages</title></rect>\n<rect class=\"gone\" x=\"0\" y=\"240\" width=\"3\" height=\"1000\"><title>block 0: 1,000 bytes at 0x400010, call 1 to 4 (freed)</title></rect>\n<rect class=\"gone\" x=\"1\" y=\"208\" width=\"5\" height=\"24\"><title>block 1: 24 bytes at 0x400400, call 2 to 7 (moved)</title></rect>\n",
+            "<svg x=\"144\" y=\"103\" width=\"1024\" height=\"336\" viewBox=\"0 0 65536 21504\">\n<rect class=\"heap\" x=\"0\" y=\"0\" width=\"65536\" height=\"21504\"><title>heap region 0x400000 + 16 pages</title></rect>\n<rect class=\"gone\" x=\"0\" y=\"4109\" width=\"19660\" height=\"17121\"><title>block 0: 1,000 bytes at 0x400010, call 1 to 4 (freed)</title></rect>\n<rect class=\"gone\" x=\"6553\" y=\"3561\" width=\"32768\" height=\"411\"><title>block 1: 24 bytes at 0x400400, call 2 to 7 (moved)</title></rect>\n",
             "<text class=\"m in\" x=\"1070\" y=\"210\">6: 400 B</text>\n",
             "<path class=\"mark\" d=\"M758 162V325m-4 -5l4 5l4 -5\" stroke-width=\"1.5\"/>\n",
             "<text class=\"m\" x=\"762\" y=\"647\">realloc</text>\n<text class=\"m faint\" x=\"762\" y=\"661\">1</text>\n<text class=\"m faint\" x=\"762\" y=\"675\">120</text>\n",
